@@ -31,6 +31,18 @@ shows_run() {
     return 1
 }
 
+# ---- standard streams that are closed
+
+# Exports without standard error, on which a number that is not found is told: that stands in none of the files.
+tells_no_file() {
+    archive_after captured "$here" || return
+    status=0
+    "${keeper[@]}" export --store "$here/records.db" "$here/out" 1 999 > "$work/said" 2>&- || status=$?
+    ((status == 65)) && [[ $(< "$work/said") == "exported records 1 messages 1 octets 22 to $here/out" ]] &&
+        ! grep -r 'no record of that number' "$here/out" &&
+        (cd -- "$here/out" && sha256sum --quiet --strict -c SHA256SUMS) > "$work/error" 2>&1 || shows_run
+}
+
 # ---- folders and files that may not be written
 
 # Starts the program as a user who is bound by file permissions, for whom the files of the check are.
@@ -455,6 +467,7 @@ imports_are_killed() {
 
 store() {
     local status here=$work/archive
+    count "an export without standard error" tells_no_file
     if ((EUID > 0)) || command -v setpriv > "$work/found"; then
         count "a store that may not be read" may_not_be_read
         count "folders that may not be written" makes_nothing_in_a_fixed_folder

@@ -1,7 +1,7 @@
 #!/usr/bin/env bash
 # shellcheck disable=SC2317,SC2015,SC2154 # count calls its checks by their names, `|| shows_run` only reports, and store.bash sets keeper
 # Tests what ./mailfile-store does with an archive of volumes where no transcript can say it: where it is killed, or a call of the system
-# fails, at each moment while a volume is begun, a folder is made or a plan is set; where several programs begin volumes at once; on a disk
+# fails, at each moment while a volume is begun, a folder is made or copied, a store is moved to one or a plan is set; where several programs begin volumes at once; on a disk
 # that is full; without permissions; and by a wrong clock. ./test sources this file after store.bash; run by itself, it plays these tests.
 
 : "${root:=$(dirname -- "$(dirname -- "$(readlink -f -- "$0")")")}" "${work:=$(mktemp -d)}" "${self:=volumes}"
@@ -163,6 +163,92 @@ plans_end_early() {
     ends_at_each "$FAILING" error=ENOSPC take_two_volumes goes_on_after_a_plan "a plan of volumes on a full disk" "${set[@]}"
 }
 
+remove_copied() {
+    rm -rf -- "${here:?}/new" "$here/new.mailfile-new"
+}
+
+# The archive of a copy that was not made to its end is as it was. The copy is not there, or it is whole.
+is_copied_or_not() {
+    is_whole_archive two 2 || return
+    [[ ! -e $here/new ]] || is_whole_archive new 2
+}
+
+# Where it could not be made, nothing is left of it either.
+is_copied_or_gone() {
+    is_copied_or_not || return
+    [[ ! -e $here/new.mailfile-new ]] || grep -q -e 'unlink.*INJECTED' -e 'rmdir.*INJECTED' "$work/trace" || {
+        ls -a -- "$here/new.mailfile-new"
+        shows_run
+    }
+}
+
+copies_end_early() {
+    local copy=(copy --store "$here/two" "$here/new")
+    ends_at_each "$CHANGING" signal=KILL remove_copied is_copied_or_not "a copy of volumes that is not made to its end" "${copy[@]}"
+    ends_at_each "$FAILING" error=EIO remove_copied is_copied_or_gone "a copy of volumes on a disk that fails" "${copy[@]}"
+    ends_at_each "$FAILING" error=ENOSPC remove_copied is_copied_or_gone "a copy of volumes on a full disk" "${copy[@]}"
+}
+
+# Makes a store of one file in `one.db`, with a record.
+make_one() {
+    run create --store "$here/one.db" --by ann --plan "$here/plan.toml" && ((status == 0)) && deliver_to one.db mail/bill.eml && ((status == 0)) ||
+        shows_run
+}
+
+# Takes a new copy of it.
+take_one() {
+    rm -rf -- "${here:?}/adopted" "$here"/single.db* && cp -- "$here/one.db" "$here/single.db"
+}
+
+adopt_one() {
+    run create --store "$here/adopted" --adopt "$here/single.db" --roll 1M
+    ((status == 0)) && [[ ! -s $work/error ]] || shows_run
+}
+
+# A store that was not moved to its end is where it was, or it is the first volume of a whole archive. Where it is where it was, the folder
+# is not there, or is told to be removed, and then the store is moved by the same command.
+goes_on_after_a_move() {
+    if [[ -e $here/single.db ]]; then
+        run_once_free check --store "$here/single.db"
+        ((status == 0)) || shows_run || return
+        if [[ -e $here/adopted ]]; then
+            run_once_free create --store "$here/adopted" --adopt "$here/single.db" --roll 1M
+            ((status == 73)) && grep -q -e 'remove the folder' -e 'there is something already' "$work/error" && [[ -e $here/single.db ]] ||
+                shows_run || return
+            rm -r -- "${here:?}/adopted"
+        fi
+        adopt_one || return
+    fi
+    is_whole_archive adopted 1 && deliver_to adopted mail/bill.eml && ((status == 0)) && is_whole_archive adopted 2 || shows_run
+}
+
+moves_end_early() {
+    local adopt=(create --store "$here/adopted" --adopt "$here/single.db" --roll 1M)
+    make_one || return
+    ends_at_each "$CHANGING" signal=KILL take_one goes_on_after_a_move "a store that is not moved to its end" "${adopt[@]}"
+    ends_at_each "$FAILING" error=EIO take_one goes_on_after_a_move "a store that is moved on a disk that fails" "${adopt[@]}"
+    ends_at_each "$FAILING" error=ENOSPC take_one goes_on_after_a_move "a store that is moved on a full disk" "${adopt[@]}"
+}
+
+# Whether another file system than that of the archive is at hand.
+has_other_disk() {
+    [[ -w /dev/shm ]] && [[ $(stat -c %d /dev/shm) != "$(stat -c %d "$work")" ]]
+}
+
+# A store on another file system is not moved.
+stays_on_its_disk() {
+    local result=0 far
+    far=$(mktemp -d /dev/shm/mailfile.XXXXXX) || return
+    take_one && cp -- "$here/one.db" "$far/far.db" && run create --store "$here/adopted" --adopt "$far/far.db" --roll 1M
+    ((status == 73)) && grep -q 'far.db: on another file system than the new folder; copy it to that one' "$work/error" &&
+        [[ ! -e $here/adopted && -e $far/far.db ]] || {
+        shows_run
+        result=1
+    }
+    rm -rf -- "$far"
+    return "$result"
+}
+
 # How many programs capture at once.
 readonly AT_ONCE=8
 
@@ -230,6 +316,9 @@ volumes() {
         rolls_end_early
         folders_end_early
         plans_end_early
+        copies_end_early
+        moves_end_early
+        ! has_other_disk || count "a store on another file system" stays_on_its_disk
     fi
     count "an archive whose volume is over its size" make_full_archive
     count "programs that capture at once in a new volume" capture_at_once mail/bill.eml 2

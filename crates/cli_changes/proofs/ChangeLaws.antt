@@ -113,14 +113,14 @@ pub held_at_end : (change : Change) (name : List ℕ) (a : Archive) → (change 
 held_at_end Place name a held = tt
 held_at_end End name a held = held refl
 
--- WHAT A CHANGE OF A HOLD CAME TO, once all that are meant were tried
+-- WHAT A CHANGE OF A HOLD CAME TO, once all that are meant were tried, of which none was refused where it came to no refusal
 pub hold_as : (S : Archive → Type 0) (a : Archive) → IsArchive a → (change : Change) (name : List ℕ) (typed : words.Choice)
-    (questions : Questions) (tally : HoldTally)
+    (questions : Questions) (tally : HoldTally) (refused : Bool) → (tally.changed.is_refused ≡ false → refused ≡ false)
     → IsTriedOn S (hold_command change name) (meant_numbers change name typed.numbers.items (found_in typed questions a)) a
-    tally.changed.is_any tally.changed.is_refused
-    → HasSingles typed.numbers.items (found_in typed questions a)
+    tally.changed.is_any refused
+    → (tally.changed.is_refused ≡ false → HasSingles typed.numbers.items (found_in typed questions a))
     → HoldsAs tally change name typed.numbers.items (found_in typed questions a)
-hold_as S a is change name typed questions tally tried each =
+hold_as S a is change name typed questions tally refused none tried each =
     let ns = meant_numbers change name typed.numbers.items (found_in typed questions a) in
     let up = hold_up a is change name typed questions in
     let are = hold_are a is change name typed questions in
@@ -131,7 +131,7 @@ hold_as S a is change name typed questions tally tried each =
           ∙ any_done (does (hold_command change name) a) ns
           ∙ ap is_any_of are;
       accepted = λ well. sym (all_done S (hold_command change name) (changed_on change name) (hold_is_each change name) ns a
-          tally.changed.is_any tally.changed.is_refused up well tried) ∙ are;
+          tally.changed.is_any refused up (none well) tried) ∙ are;
     }
 
 -- A CHANGE OF A HOLD that ends well
@@ -141,7 +141,7 @@ pub hold_well : (a : Archive) → IsArchive a → (change : Change) (name : List
     → (tally.changed.is_any ≡ false → IsHeld change name (changed_on change name (changed_numbers change name (found_in typed questions a)) a))
     → HoldsWell change name typed.numbers.items (found_in typed questions a) a
 hold_well a is change name typed questions tally well came seen = record {
-  each_found = came.each_found;
+  each_found = came.each_found well;
   accepted = came.accepted well;
   held = held_well a is change name typed questions tally.changed.is_any came.any seen;
 }

@@ -127,7 +127,7 @@ looked_staying old new e f is stays to typed numbers refused = record {
 
 -- ---- the numbers that are typed by themselves
 
--- none is missing where a refiling notes no refusal, and what it notes last is whether all were found
+-- none is missing where a change notes no refusal, and what it notes last is whether all were found
 pub none_missing : (old all refused : Bool) (missing : List ℕ) → refused ≡ (old || not all) → refused ≡ false → all ≡ not (is_any_of missing)
     → missing ≡ []
 none_missing old all refused [] noted accepted is = refl

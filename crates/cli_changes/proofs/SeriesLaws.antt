@@ -76,6 +76,15 @@ answers_more : (command : Command) (ns : List ℕ) (n : ℕ) (a : Archive)
 answers_more command [] n a = refl
 answers_more command (m ∷ ms) n a = ap (λ l. is_ok (command m a) ∷ l) (answers_more command ms n (tried a (command m a)))
 
+-- where one or the other is false, each is
+pub or_first : (x y : Bool) → (x || y) ≡ false → x ≡ false
+or_first true y e = e
+or_first false y e = refl
+
+pub or_second : (x y : Bool) → (x || y) ≡ false → y ≡ false
+or_second true y e = absurd cc
+or_second false y e = e
+
 pub or_off : (x : Bool) → (x || false) ≡ x
 or_off true = refl
 or_off false = refl

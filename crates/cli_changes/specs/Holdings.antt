@@ -1,9 +1,11 @@
 -- On which records a hold is placed, or ended.
 use Rattle.std.specs.Prelude.{◌≡◌, ◌||◌, ◌&&◌, not, ℕ, Bool, true, false, List, ◌++◌, ◌∷◌, [], map, filter, Result, Some}
+use Rattle.std.specs.Prelude.{if◌then◌else◌}
 use Rattle.std.proofs.Common.{sym, ap, ap₂, refl, ◌∙◌}
 use Rattle.std.proofs.lemmas.List.{append_assoc, append-nil, map-append}
 use Rattle.std.proofs.lemmas.List.Elements.{filter-append}
 use Rattle.std.specs.Str.{bytes_eq}
+use Rattle.choice_words.specs.Readings.{reads_as_any_numbers}
 use Rattle.choice_words.specs.declared.numbers.TypedNumbers.{TypedNumbers}
 use Rattle.cli_choice.specs.declared.holds.Change.{Change}
 use Rattle.cli_choice.specs.declared.holds.Change.TheVariants.{Place, End}
@@ -16,6 +18,8 @@ use Rattle.record_choice.specs.Disposals.{is_one_of}
 use Rattle.record_choice.specs.Entries.{RecordEntry, entry_view}
 use Rattle.record_choice.specs.declared.entry.RecordEntry as own
 use Rattle.cli_console.specs.Finds.{HasSingles, entries_of, numbers_of}
+use Rattle.cli_console.specs.declared.failure.Status.{Status}
+use Rattle.cli_console.specs.declared.failure.Status.TheVariants.{Usage, BadData}
 use Rattle.cli_changes.specs.declared.holds.HoldTally.{HoldTally}
 use Rattle.cli_changes.specs.declared.holds.Meant.{Meant}
 use Rattle.cli_changes.specs.Series.{changed_in_both, sum_of}
@@ -62,6 +66,10 @@ abbrev pub IsHeld : Change → (name : List ℕ) → Archive → Type 0
 IsHeld Place name a = Unit {0}
 IsHeld End name a = is_any_of (held_by name a) ≡ true
 
+-- THE END OF A HOLD THAT NO LIVE RECORD HAS is a wrong command line where its name reads as numbers of records, and else bad data
+abbrev pub status_of_none : (name : List ℕ) → Status
+status_of_none name = if reads_as_any_numbers name then Usage else BadData
+
 -- A CHANGE ENDS WELL only where each number that is typed by itself is found, the archive refuses none of these, and a live record has the
 -- hold that ends
 pub record HoldsWell (change : Change) (name : List ℕ) (typed : List TypedNumbers) (found : List RecordEntry) (a : Archive) : Type 0 where
@@ -71,11 +79,11 @@ pub record HoldsWell (change : Change) (name : List ℕ) (typed : List TypedNumb
 
 -- ---- what it comes to
 
--- WHAT A CHANGE CAME TO on the records that are found: whether it was done on one of them; each number that is typed by itself is found; and
--- none was refused only where the archive refuses none
+-- WHAT A CHANGE CAME TO on the records that are found: whether it was done on one of them; and none was refused only where each number that
+-- is typed by itself is found, and the archive refuses none
 pub record HoldsAs (tally : HoldTally) (change : Change) (name : List ℕ) (typed : List TypedNumbers) (found : List RecordEntry)
     : Type 0 where
-  pub each_found : HasSingles typed found
+  pub each_found : tally.changed.is_refused ≡ false → HasSingles typed found
   pub any : tally.changed.is_any ≡ is_any_of (changed_numbers change name found)
   pub accepted : tally.changed.is_refused ≡ false → meant_numbers change name typed found ≡ changed_numbers change name found
 

@@ -170,7 +170,7 @@ fn text_at(rt: &HostRuntime, path: &str) -> Result<Vec<u8>, Failure> {
 fn word_words(alloc: Global, word: &[u8]) -> Result<Shown, AllocError> {
     let mut text = Shown::new(alloc);
     put!(text; quoted(word)
-        " is neither a number of a record, as 3, nor a range of numbers, as 5-9")?;
+        " is neither a number of a record, as 3, nor a range of numbers, as 5-9; of a volume as 3/17 and 3/5-9")?;
     Ok(text)
 }
 

@@ -4,7 +4,7 @@ ghost use Rattle.std.specs.Prelude.{◌≡◌, false};
 ghost use Rattle.cli_changes.specs.DisposalTallies.{EndsAs, tally_after};
 
 use class_plan::Date;
-use cli_console::{Failure, tell, tell_words};
+use cli_console::{Failure, tell, tell_words_in};
 use std::alloc::{AllocError, Global};
 use tool_texts::{Shown, put};
 
@@ -55,11 +55,12 @@ impl DisposalTally {
         }
     }
 
-    /// Tells, where a message is gone with a record, what is left of it.
-    pub fn tell_gone(&self, rt: &HostRuntime) {
+    /// Tells, where a message is gone with a record, what is left of it: of a volume alone, where its number is given.
+    pub fn tell_gone(&self, rt: &HostRuntime, volume: Option<u32>) {
         if self.is_any_gone {
-            tell_words(
+            tell_words_in(
                 rt,
+                volume,
                 "the messages are gone from the archive, but their octets may still lie in unused parts of its file; copy makes a store without them",
             );
         }

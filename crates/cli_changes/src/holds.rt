@@ -7,6 +7,7 @@ ghost use Rattle.record_choice.specs.Reads.{OnlyReads};
 ghost use Rattle.record_choice.specs.Views.{choice_view};
 ghost use Rattle.record_ledger.specs.Ledgers.{keeper_of};
 ghost use Rattle.cli_console.specs.Counts.{counted as counted_if};
+ghost use Rattle.cli_console.specs.Failures.{IsToldAs};
 ghost use Rattle.cli_console.specs.Finds.{IsAtEnd, IsBounded, found_ahead, found_in};
 ghost use Rattle.cli_changes.specs.HoldLines.{change_words, changed_line as changed_line_of, said_words};
 ghost use Rattle.cli_changes.specs.Holdings.{
@@ -27,11 +28,14 @@ ghost use Rattle.cli_changes.specs.Holdings.{
   none_meant,
   none_seen,
   none_tried,
+  status_of_none,
 };
 ghost use Rattle.cli_changes.specs.Series.{ChangesAll, ChangesFirst, IsSoOf, KeepsAll, WasClean};
 
-use crate::series::{Changed, RecordChange, change_each, judge_refused, refusal_told};
-use choice_words::{TypedNumbers, reads_as_numbers};
+use crate::series::{
+    Changed, RecordChange, change_each, is_all_found, judge_refused, refusal_told,
+};
+use choice_words::{TypedNumbers, reads_as_any_numbers};
 use cli_choice::{Change, Questions, is_meant};
 use cli_console::{Failure, Reader, Search, Status, counted, read_chosen, tell, write_text};
 use cli_history::StoreLedger;
@@ -262,13 +266,17 @@ fn said_of(alloc: Global, name: &str, words: &'static str) -> Result<Shown, Allo
     Ok(text)
 }
 
-/// The failure of the end of a hold that no record has. `Usage` where its name reads as numbers of records: then it was more
-/// likely forgotten.
-pub(crate) fn not_held(alloc: Global, name: &str) -> Failure {
-    if reads_as_numbers(name.as_bytes()) {
-        let words =
-            "numbers of records, where the name of the hold belongs; type it before them, as audit 3 5-9";
-        return Failure::shown(Status::Usage, said_of(alloc, name, words));
+/// What is said of numbers of records where the name of a hold belongs.
+const NAME_FORGOTTEN: &str =
+    "numbers of records, where the name of the hold belongs; type it before them, as audit 3 5-9, or audit 3/17 in a folder of volumes";
+
+/// The failure of the end of a hold that no record has. `Usage` where its name reads as numbers of records, with a volume or without:
+/// then it was more likely forgotten. Else `BadData`.
+pub(crate) fn not_held(alloc: Global, name: &str) -> Failure
+    ensures { IsToldAs (status_of_none name.now) result }
+{
+    if reads_as_any_numbers(name.as_bytes()) {
+        return Failure::shown(Status::Usage, said_of(alloc, name, NAME_FORGOTTEN));
     }
     let words = "no record has a hold of this name; the subcommand holds lists the holds";
     Failure::shown(Status::BadData, said_of(alloc, name, words))
@@ -386,8 +394,8 @@ fn end_releasing(
 /// Ends a change of the hold of a name that was tried on all records that are meant, in one store or in several. Where the hold was
 /// to end, and ended on none, it counts whether a live record has it.
 ///
-/// `BadData` where a record was refused, which was told, and where no live record has the hold that was to end (`Usage` where its name
-/// reads as numbers of records). Where it changed on none, that is told.
+/// `BadData` where a record was refused, or not found, which was told, and where no live record has the hold that was to end (`Usage` where
+/// its name reads as numbers of records). Where it changed on none, that is told.
 pub fn end_holds(
     rt: &HostRuntime,
     change: Change,
@@ -426,8 +434,8 @@ fn may_be_held<S: Alter>(
 }
 
 /// Changes the hold of a name on the records of a store that are found. No record is changed before all are found. Those that are typed
-/// by themselves and are not found, or that the archive refuses, are told; the former are a failure. `BadData` where the class is none
-/// of the plan.
+/// by themselves and are not found, or that the archive refuses, are told, and count as refused. `BadData` where the class is none of the
+/// plan.
 ///
 /// Where it succeeds, the hold is placed on each record that is found, is live and does not have it yet, or ended on each that is
 /// found and has it, and nothing else of the archive has changed. Where it fails, it is so for the first of them, in the order of
@@ -453,9 +461,9 @@ pub fn hold_found<S: Alter>(
     let mut search = Search::new(hold.rt, archive, choice, questions)?;
     let meant = meant_of(archive, &mut search, *hold, choice.numbers.as_slice())?;
     let changed = change_each(hold, archive, meant.numbers.as_slice())?;
-    search.end_in(hold.rt, archive, hold.volume)?;
+    let is_all_found = is_all_found(search.end_in(hold.rt, archive, hold.volume))?;
     Ok(HoldTally {
-        changed,
+        changed: changed.with_missing(is_all_found),
         passed: meant.passed,
         destroyed: meant.destroyed,
     })
@@ -464,9 +472,9 @@ pub fn hold_found<S: Alter>(
 /// Places the hold of a name on the records that are found, or ends it on them. No record is changed before all are found.
 ///
 /// `BadData` where the class is none of the plan; and in the end where a number that is typed by itself is not found, or the archive
-/// refuses that record, each of which is told, and where no record of the archive has the hold that is to end (`Usage` where the name
-/// of the hold reads as numbers of records). It is no failure where a hold is placed on no further record, since a hold is placed
-/// again after each intake, nor where it ends on none of those that are found, while others have it. Either is told.
+/// refuses that record, each of which is told, and where no record of the archive has the hold that is to end, which is told too (`Usage`
+/// where the name of the hold reads as numbers of records). It is no failure where a hold is placed on no further record, since a hold is
+/// placed again after each intake, nor where it ends on none of those that are found, while others have it. Either is told.
 ///
 /// Where it succeeds, the hold is placed on each record that is found, is live and does not have it yet, or ended on each that is
 /// found and has it, and nothing else of the archive has changed. Where it fails, it is so for the first of them, in the order of

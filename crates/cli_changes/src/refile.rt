@@ -1,14 +1,13 @@
 //! `refile`: records that get another class of the plan.
 
-ghost use Rattle.std.specs.Prelude.{◌≡◌, ◌||◌, ◌∷◌, ◌++◌, [], List, ℕ, true, false, not, IfOk, IsOk, OnErr, OnOk};
+ghost use Rattle.std.specs.Prelude.{◌≡◌, ◌||◌, ◌∷◌, ◌++◌, [], true, false, not, IfOk, IsOk, OnErr, OnOk};
 ghost use Rattle.class_plan.specs.Plans.{has};
 ghost use Rattle.record_archive.specs.Archive.{Archive};
 ghost use Rattle.record_archive.specs.Refiling.{refile};
 ghost use Rattle.record_choice.specs.Reads.{OnlyReads};
 ghost use Rattle.record_ledger.specs.Ledgers.{keeper_of, keeps_history};
 ghost use Rattle.cli_texts.specs.Lines.{due_words};
-ghost use Rattle.cli_console.specs.Finds.{HasSingles, IsAtEnd, IsBounded, IsEndOf, TakesThese, found_ahead, found_in};
-ghost use Rattle.cli_changes.specs.Holdings.{is_any_of};
+ghost use Rattle.cli_console.specs.Finds.{HasSingles, IsAtEnd, IsBounded, TakesThese, found_ahead, found_in};
 ghost use Rattle.cli_changes.specs.Moves.{
   AddsMovers,
   AddsMoving,
@@ -38,7 +37,7 @@ ghost use Rattle.std.specs.List.{list_any};
 use crate::due_today::{DueToday, put_due_today};
 use crate::refilings::{Fate, fate_of, gets};
 use crate::series::{
-    RecordChange, change_all, judge_listed, judge_refused, refusal_line, refusal_told,
+    RecordChange, change_all, is_all_found, judge_listed, judge_refused, refusal_line, refusal_told,
 };
 use choice_words::TypedNumbers;
 use class_plan::{Date, Plan};
@@ -309,18 +308,6 @@ impl MoveTally {
     }
 }
 
-/// Whether a search ended well. A number that was not found was told then; another failure is one.
-fn is_all_found(ended: Result<(), Failure>) -> Result<bool, Failure>
-    ensures { IfOk result (λ all. (missing : List ℕ) → IsEndOf missing ended
-        → all ≡ not (is_any_of missing)) }
-{
-    match ended {
-        Ok(()) => Ok(true),
-        Err(Failure::Reported(Status::BadData)) => Ok(false),
-        Err(failure) => Err(failure),
-    }
-}
-
 /// Has each record that is found taken once: it moves, is passed over, or is told.
 fn take_found<R: Repository<Fault = StoreFault>>(
     archive: &mut R,
@@ -338,12 +325,14 @@ fn take_found<R: Repository<Fault = StoreFault>>(
     search.read_found(moves.rt, archive, moves)
 }
 
-/// Finds the records that get a class, and writes for each what that changes. They are those of a volume, in an archive of volumes.
+/// Finds the records that get a class, and writes for each what that changes. They are those of a volume, in an archive of volumes. It is
+/// counted by the day `today` what is due at once.
 pub fn moves_shown<'a, R: Repository<Fault = StoreFault>>(
     rt: &'a HostRuntime,
     archive: &mut R,
     volume: Option<u32>,
     to: &'a [u8],
+    today: Date,
     choice: &'a Choice<'_>,
     questions: &Questions,
 ) -> Result<Moves<'a>, Failure>
@@ -363,7 +352,7 @@ pub fn moves_shown<'a, R: Repository<Fault = StoreFault>>(
         volume,
         to,
         typed: choice.numbers.as_slice(),
-        today: today(rt)?,
+        today,
         numbers: Vec::new(rt.alloc()),
         before: DueToday::none(),
         after: DueToday::none(),
@@ -516,8 +505,9 @@ pub fn refile_records<S: Alter>(
     let to = refiling.to.as_bytes();
     let is_noted = ledger.is_noted();
     judge_refiling(rt, is_noted, ledger.plan_kept(), to)?;
+    let day = today(rt)?;
     let volume = None;
-    let moves = moves_shown(rt, ledger, volume, to, choice, questions)?;
+    let moves = moves_shown(rt, ledger, volume, to, day, choice, questions)?;
     judge_moves(rt, moves.tally(), refiling.is_agreed)?;
     change_all(
         &RefilingTo { rt, volume, to },

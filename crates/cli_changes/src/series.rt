@@ -1,9 +1,11 @@
 //! How records are changed, one after another.
 
-ghost use Rattle.std.specs.Prelude.{◌≡◌, ◌||◌, false, not, IfOk, OnErr, OnOk};
+ghost use Rattle.std.specs.Prelude.{◌≡◌, ◌||◌, ℕ, List, false, not, IfOk, OnErr, OnOk};
 ghost use Rattle.record_archive.specs.Archive.{Archive};
 ghost use Rattle.record_archive.specs.Calls.{Keeper};
 ghost use Rattle.record_archive.specs.Faults.{is_trouble};
+ghost use Rattle.cli_console.specs.Finds.{IsEndOf};
+ghost use Rattle.cli_changes.specs.Holdings.{is_any_of};
 ghost use Rattle.cli_changes.specs.Series.{Command, IsDoneOn, IsTried, IsTriedOn, StopsIn, changed_in_both};
 
 use cli_console::{Failure, Status, refusal_words, tell};
@@ -36,7 +38,7 @@ pub(crate) trait RecordChange<A> {
 pub struct Changed {
     /// Whether the archive did it on one.
     pub is_any: bool,
-    /// Whether it refused one.
+    /// Whether it refused one, or one whose number is typed was not found.
     pub is_refused: bool,
 }
 
@@ -69,6 +71,17 @@ impl Changed {
         Changed {
             is_any: self.is_any || is_done,
             is_refused: self.is_refused || !is_done,
+        }
+    }
+
+    /// The same; refused also where not all numbers that are typed were found.
+    pub(crate) fn with_missing(self, is_all_found: bool) -> Changed
+        ensures any { result.is_any ≡ self.is_any }
+        ensures refused { result.is_refused ≡ (self.is_refused || not is_all_found) }
+    {
+        Changed {
+            is_any: self.is_any,
+            is_refused: self.is_refused || !is_all_found,
         }
     }
 }
@@ -146,6 +159,18 @@ pub(crate) fn refusal_told(
             let word = number_text(rt.alloc(), volume, number)?;
             Err(Failure::of_store(rt.alloc(), word.as_str(), trouble))
         }
+    }
+}
+
+/// Whether a search ended well. A number that was not found was told then; another failure is one.
+pub(crate) fn is_all_found(ended: Result<(), Failure>) -> Result<bool, Failure>
+    ensures { IfOk result (λ all. (missing : List ℕ) → IsEndOf missing ended
+        → all ≡ not (is_any_of missing)) }
+{
+    match ended {
+        Ok(()) => Ok(true),
+        Err(Failure::Reported(Status::BadData)) => Ok(false),
+        Err(failure) => Err(failure),
     }
 }
 

@@ -4,3 +4,4 @@ mod Rows
 pub mod Texts
 pub mod TypedVolumeLaws
 mod VolumeRows
+mod FaultLemmas

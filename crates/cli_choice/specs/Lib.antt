@@ -4,3 +4,4 @@ pub mod Holds
 pub mod Disposals
 pub mod Headers
 pub mod TypedVolumes
+pub mod Faults

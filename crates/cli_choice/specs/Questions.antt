@@ -20,11 +20,12 @@ IsTestTyped None (Some q) = ⊥
 IsTestTyped (Some text) None = ⊥
 IsTestTyped (Some text) (Some q) = (t : TestTree) × IsQuestion text.now t × (test_asked q ≡ test_in t)
 
+abbrev pub types_no_texts : Words → Bool
+types_no_texts c = is_none c.sender && is_none c.recipient && is_none c.subject
+
 -- the texts are asked for, each in its fields, if any is typed
 abbrev pub fields_typed : Words → Option Asked
-fields_typed c =
-    if is_none c.sender && is_none c.recipient && is_none c.subject then None
-    else Some (asked_of c.sender c.recipient c.subject)
+fields_typed c = if types_no_texts c then None else Some (asked_of c.sender c.recipient c.subject)
 
 -- the texts that are asked for stand in the message's fields
 abbrev pub meets_fields : Option Asked → List ℕ → Bool

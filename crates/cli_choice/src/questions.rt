@@ -1,9 +1,10 @@
 //! What is asked of messages.
 
-ghost use Rattle.std.specs.Prelude.{◌≡◌, IfOk};
+ghost use Rattle.std.specs.Prelude.{◌≡◌, None, IfErr, IfOk};
 ghost use Rattle.record_choice.specs.Choices.{where_asked};
 ghost use Rattle.record_question.specs.Questions.{is_yes};
-ghost use Rattle.cli_choice.specs.Questions.{IsTestTyped, fields_typed, asks_nothing, is_found, is_missed, is_found_answer, is_unread_answer, meets_fields, misses_fields};
+ghost use Rattle.cli_choice.specs.Faults.{blank_typed, Explains};
+ghost use Rattle.cli_choice.specs.Questions.{IsTestTyped, types_no_texts, fields_typed, asks_nothing, is_found, is_missed, is_found_answer, is_unread_answer, meets_fields, misses_fields};
 
 use choice_words::Choice;
 use mail_display::{FieldGroup, FieldQuestion, FieldQuestionFault};
@@ -42,57 +43,79 @@ pub enum Answer {
     Lacking,
 }
 
-/// The fault of a test.
-fn test_fault(fault: QuestionFault) -> QuestionsFault {
-    match fault {
-        QuestionFault::NoMemory => QuestionsFault::NoMemory,
-        fault => QuestionsFault::Test(fault),
+impl From<QuestionFault> for QuestionsFault {
+    ghost use Rattle.std.specs.Prelude.{◌≡◌};
+    ghost use Rattle.cli_choice.specs.Faults.{of_test};
+
+    ghost from_gives = { λ e f. f ≡ of_test e };
+
+    fn from(fault: QuestionFault) -> QuestionsFault {
+        match fault {
+            QuestionFault::NoMemory => QuestionsFault::NoMemory,
+            fault => QuestionsFault::Test(fault),
+        }
     }
 }
 
-/// The fault of a text.
-fn text_fault(fault: FieldQuestionFault) -> QuestionsFault {
-    match fault {
-        FieldQuestionFault::Empty(group) => QuestionsFault::EmptyText(group),
-        FieldQuestionFault::NoMemory(_) => QuestionsFault::NoMemory,
+impl From<FieldQuestionFault> for QuestionsFault {
+    ghost use Rattle.std.specs.Prelude.{◌≡◌};
+    ghost use Rattle.cli_choice.specs.Faults.{of_fields};
+
+    ghost from_gives = { λ e f. f ≡ of_fields e };
+
+    fn from(fault: FieldQuestionFault) -> QuestionsFault {
+        match fault {
+            FieldQuestionFault::Empty(group) => QuestionsFault::EmptyText(group),
+            FieldQuestionFault::NoMemory(_) => QuestionsFault::NoMemory,
+        }
     }
 }
 
 /// The test that is typed, if one is.
-fn read_test(alloc: Global, text: Option<&str>) -> Result<Option<TestQuestion>, QuestionsFault>
-    ensures { IfOk result (λ o. IsTestTyped text.entry o) }
+#[tactic(auto, using(crate::proofs::FaultLemmas::test_explained))]
+fn read_test(alloc: Global, typed: &Choice<'_>) -> Result<Option<TestQuestion>, QuestionsFault>
+    ensures test { IfOk result (λ o. IsTestTyped typed.now.test o) }
+    ensures refused { IfErr result (λ e. Explains typed.now e) }
 {
-    let Some(text) = text else {
+    let Some(text) = typed.test else {
         return Ok(None);
     };
-    match TestQuestion::read(alloc, text.as_bytes()) {
-        Ok(question) => Ok(Some(question)),
-        Err(fault) => Err(test_fault(fault)),
-    }
+    let question = TestQuestion::read(alloc, text.as_bytes())?;
+    Ok(Some(question))
+}
+
+/// Whether no text is typed for fields.
+fn has_no_texts(typed: &Choice<'_>) -> bool
+    ensures { result ≡ types_no_texts typed.now }
+{
+    typed.sender.is_none() && typed.recipient.is_none() && typed.subject.is_none()
 }
 
 /// The texts that are typed for fields, if one is.
+#[tactic(auto, using(crate::proofs::FaultLemmas::fields_explained, crate::proofs::FaultLemmas::none_blank))]
 fn read_fields(alloc: Global, typed: &Choice<'_>) -> Result<Option<FieldQuestion>, QuestionsFault>
-    ensures { IfOk result (λ o. o ≡ fields_typed typed.now) }
+    ensures fields { IfOk result (λ o. o ≡ fields_typed typed.now) }
+    ensures texts { IfOk result (λ o. blank_typed typed.now ≡ None) }
+    ensures refused { IfErr result (λ e. Explains typed.now e) }
 {
-    if typed.sender.is_none() && typed.recipient.is_none() && typed.subject.is_none() {
+    if has_no_texts(typed) {
         return Ok(None);
     }
-    match FieldQuestion::new(alloc, typed.sender, typed.recipient, typed.subject) {
-        Ok(question) => Ok(Some(question)),
-        Err(fault) => Err(text_fault(fault)),
-    }
+    let question = FieldQuestion::new(alloc, typed.sender, typed.recipient, typed.subject)?;
+    Ok(Some(question))
 }
 
 impl Questions {
     /// What is typed of messages: the test of a rule, and texts in fields. Refused are a test that no rule may have, and an
-    /// empty or blank text.
+    /// empty or blank text: the first of these. The one refusal else is no memory.
     pub fn read(alloc: Global, typed: &Choice<'_>) -> Result<Questions, QuestionsFault>
         ensures test { IfOk result (λ q. IsTestTyped typed.now.test q.test) }
         ensures fields { IfOk result (λ q. q.fields ≡ fields_typed typed.now) }
+        ensures texts { IfOk result (λ q. blank_typed typed.now ≡ None) }
+        ensures refused { IfErr result (λ e. Explains typed.now e) }
     {
         Ok(Questions {
-            test: read_test(alloc, typed.test)?,
+            test: read_test(alloc, typed)?,
             fields: read_fields(alloc, typed)?,
         })
     }

@@ -41,11 +41,15 @@ impl Lines {
         Ok(())
     }
 
-    /// The lines of a history against which nothing stands. `BadData` where something stands against an event, which is told;
-    /// another failure is that of the store.
-    pub fn of<S: Alter>(rt: &HostRuntime, noted: &mut NotedStore<S>) -> Result<Lines, Failure> {
+    /// The lines of a history against which nothing stands. `BadData` where something stands against an event, which is told, in an
+    /// archive of volumes with the volume; another failure is that of the store.
+    pub fn of<S: Alter>(
+        rt: &HostRuntime,
+        noted: &mut NotedStore<S>,
+        volume: Option<u32>,
+    ) -> Result<Lines, Failure> {
         let mut lines = Lines::new(rt.alloc());
-        let mut watch = Watch::new(rt.alloc(), None)?;
+        let mut watch = Watch::new(rt.alloc(), volume)?;
         let mut events = Events::all();
         for _ in 0..u64::MAX {
             let Some(page) = events.next_page(rt, noted)? else {

@@ -1,11 +1,12 @@
 //! The events of records that are taken out of a store, each with the marks by which it is checked.
 
 ghost use Rattle.std.specs.Prelude.{◌≡◌, ◌&&◌, is_none, is_ok, not};
+ghost use Rattle.cli_history.specs.Walks.{Glances};
 
 use crate::chosen::records_of;
-use crate::pages::{PAGE, event_of};
+use crate::pages::{Events, event_of};
 use crate::watching::Watch;
-use cli_console::{Failure, Status, tell};
+use cli_console::{Failure, Status};
 use record_history::Deed;
 use record_store::{EventLayout, EventRow, RecordEntry, Store};
 use sqlite::Alter;
@@ -52,8 +53,8 @@ impl Subjects {
 pub struct Extract<'s> {
     subjects: &'s Subjects,
     watch: Watch,
-    /// The number from which it goes on, if it does.
-    from: Option<u32>,
+    /// The events that are still ahead.
+    events: Events,
     /// The mark of the event before; empty before the first.
     before: Vec<u8>,
     is_any_unread: bool,
@@ -72,18 +73,19 @@ fn push_taken(lines: &mut Vec<u8>, before: &[u8], row: &EventRow) -> Result<(), 
 }
 
 impl<'s> Extract<'s> {
-    /// The walk over the events of some records from the first event on; none where the store keeps no history. The only
-    /// refusal is no memory.
+    /// The walk over the events of some records from the first event on; none where the store keeps no history. What is told of the
+    /// history of a volume begins with the number of the volume. The only refusal is no memory.
     pub fn of<S: Alter>(
         alloc: Global,
         archive: &Store<S>,
+        volume: Option<u32>,
         subjects: &'s Subjects,
     ) -> Result<Option<Extract<'s>>, AllocError> {
         match archive.event_layout() {
             EventLayout::Present => Ok(Some(Extract {
                 subjects,
-                watch: Watch::new(alloc, None)?,
-                from: Some(1),
+                watch: Watch::new(alloc, volume)?,
+                events: Events::all(),
                 before: Vec::new(alloc),
                 is_any_unread: false,
             })),
@@ -95,7 +97,7 @@ impl<'s> Extract<'s> {
     fn tell_unread(&mut self, rt: &HostRuntime, row: &EventRow, words: &Shown) {
         self.is_any_unread = true;
         if !self.watch.is_told(row.number) {
-            tell(rt, words);
+            self.watch.tell(rt, words);
         }
     }
 
@@ -124,18 +126,11 @@ impl<'s> Extract<'s> {
         &mut self,
         rt: &HostRuntime,
         archive: &mut Store<S>,
-    ) -> Result<Option<Vec<u8>>, Failure> {
-        let Some(from) = self.from else {
+    ) -> Result<Option<Vec<u8>>, Failure>
+        ensures { Glances S.Store archive.old archive.new }
+    {
+        let Some(page) = self.events.next_page_of(rt, archive)? else {
             return Ok(None);
-        };
-        let page = archive.events_from(from, PAGE).map_err(|fault| Failure::of_store(
-            rt.alloc(),
-            "the history",
-            fault,
-        ))?;
-        self.from = match page.last() {
-            Some(last) => last.number.checked_add(1),
-            None => return Ok(None),
         };
         let mut lines = Vec::new(rt.alloc());
         for row in page {

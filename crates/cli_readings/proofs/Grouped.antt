@@ -2,6 +2,7 @@
 use Rattle.std.proofs.Common.{◌≡◌, ℕ, ◌==◌, ◌&&◌, ◌<◌, ◌≤◌, ltb, get_or, ◌⊎◌, inl, inr}
 use Rattle.std.proofs.Common.{Bool, true, false, cond, not, List, [], ◌∷◌, ◌++◌, length, filter}
 use Rattle.std.proofs.Common.{Option, Some, None, Bor, Ordering, Less, Equal, Greater, refl, sym, ap, ap₂, ◌∙◌, append-nil, arith}
+use Rattle.std.proofs.Common.{◌-◌, zero, suc, subst}
 use Rattle.std.proofs.lemmas.Bool.{ltb-true, not-true}
 use Rattle.std.proofs.lemmas.Cmp.{nat_cmp_total, nat_list_cmp_total, then_total}
 use Rattle.std.proofs.lemmas.Fn.{always_returns_same}
@@ -14,7 +15,7 @@ use Rattle.std.proofs.lemmas.Map.Keys.{IsDistinct-from_sorted, IsDistinct-IsPerm
 use Rattle.std.proofs.lemmas.Map.Made.{IsDistinct-keys_filter}
 use Rattle.std.proofs.lemmas.Map.Text.{is_eq-slice_cmp}
 use Rattle.std.proofs.lemmas.Map.Views.{All-found, exact_unsigned_eq}
-use Rattle.std.proofs.lemmas.Option.{get_or_from_slice_get, slice_get_cases}
+use Rattle.std.proofs.lemmas.Option.{get_or_from_slice_get, slice_get_cases, slice_get_past, slice_get_read}
 use Rattle.std.proofs.lemmas.Slice.Eq.{bytes_eq-Decides}
 use Rattle.std.specs.BTreeMap.{BTreeMap, IsOrdered, get, is_at}
 use Rattle.std.specs.Cmp.{IsTotalOrder, on_total, tied_then}
@@ -22,12 +23,14 @@ use Rattle.std.specs.Fn.{Mut, Called}
 use Rattle.std.specs.List.{AllByRecursion, Contains, IsDistinct, slice_get}
 use Rattle.std.specs.List.Sorted.{IsPermutation, IsSortedByClosure, IsSortedByKey}
 use Rattle.std.specs.Map.{keys_of}
+use Rattle.std.specs.Option.{option_copied}
 use Rattle.std.specs.Ordering.{eq_by_cmp, is_eq, is_lt, nat_cmp}
+use Rattle.std.specs.Slice.{IsItemAt}
 use Rattle.std.specs.Str.{bytes_eq}
 use Rattle.cli_readings.specs.declared.groups.Sealed.{Sealed}
 use Rattle.cli_readings.specs.declared.groups.Group.{Group}
 use Rattle.cli_readings.specs.Groups.{Added, AreTwice, AreUnder, IsListed, IsWhole, Key, KeyedGroup, OwnKey}
-use Rattle.cli_readings.specs.Groups.{is_same, is_twice, key_of, order_of, records_in, records_of, twice_in, was_twice, with_key}
+use Rattle.cli_readings.specs.Groups.{is_same, is_twice, key_of, order_of, place_order, records_in, records_of, twice_in, was_twice, with_key}
 
 -- ---- seals
 
@@ -63,6 +66,9 @@ flips x y = go (is_same x y) (is_same y x) refl refl
 
 total : IsTotalOrder order_of
 total = then_total (on_total (λ (x : OwnKey). x.0) nat_cmp_total) (on_total (λ (x : OwnKey). x.1.items) nat_list_cmp_total)
+
+place_total : IsTotalOrder place_order
+place_total = then_total (on_total (λ (r : Sealed). r.volume) nat_cmp_total) (on_total (λ (r : Sealed). r.number) nat_cmp_total)
 
 -- ---- a record more
 
@@ -125,7 +131,7 @@ distinct_as {K = K} e f same (k ∷ ks) d = (apart ks d.0, distinct_as e f same 
     apart (y ∷ ys) h = (sym (same k y) ∙ h.0, apart ys h.1)
 
 pub twice_are : (m : BTreeMap OwnKey Group) (added : List Added) (groups : List KeyedGroup) → AreUnder m added → IsOrdered order_of m
-    → IsPermutation (twice_in m) groups → IsSortedByKey (λ (g : KeyedGroup). g.1.first.number) nat_cmp groups → AreTwice added groups
+    → IsPermutation (twice_in m) groups → IsSortedByKey (λ (g : KeyedGroup). g.1.first) place_order groups → AreTwice added groups
 twice_are m added groups under ordered moved sorted = record {
   whole = All-permutation (IsWhole added) (twice_in m) groups moved (All-filter was_twice (IsWhole added) m.entries
       (All-weaker (λ (e : KeyedGroup). get order_of m e.0 ≡ Some e.1) (IsWhole added)
@@ -171,10 +177,22 @@ more_twice ts us left rest x all added next before =
 pub by_first : {F : Type 0} {g : Mut F (Bor KeyedGroup × (Bor KeyedGroup × Unit {0})) Ordering} {f : F} (shown : List KeyedGroup)
     → IsSortedByClosure g f shown
     → ((a : Bor KeyedGroup × (Bor KeyedGroup × Unit {0})) (r : Ordering) (f' : F) → Called g f a r f'
-    → (r ≡ nat_cmp a.0.now.1.first.number a.1.0.now.1.first.number) × (f' ≡ f))
-    → IsSortedByKey (λ (k : KeyedGroup). k.1.first.number) nat_cmp shown
+    → (r ≡ place_order a.0.now.1.first a.1.0.now.1.first) × (f' ≡ f))
+    → IsSortedByKey (λ (k : KeyedGroup). k.1.first) place_order shown
 by_first {g = g} {f = f} shown up calls =
-    let first = λ (k : KeyedGroup). k.1.first.number in
-    let answers = always_returns_same g (λ a r. is_lt r ≡ is_lt (nat_cmp (first a.0.now) (first a.1.0.now))) f
+    let first = λ (k : KeyedGroup). k.1.first in
+    let answers = always_returns_same g (λ a r. is_lt r ≡ is_lt (place_order (first a.0.now) (first a.1.0.now))) f
     (λ a r f' k. (ap is_lt (calls a r f' k).0, (calls a r f' k).1)) in
-    up _ (ranks_by nat_cmp_total first) answers
+    up _ (ranks_by place_total first) answers
+
+-- ---- a record of a group
+
+pub other_record : (first : Sealed) (others : List Sealed) (n : ℕ) (o : Option (Bor Sealed)) (r : Option Sealed) → (n ≡ 0 → ⊥)
+    → IsItemAt others (n - 1) o → r ≡ option_copied o → r ≡ slice_get (first ∷ others) n
+other_record first others zero o r more item is = absurd (more refl)
+other_record first others (suc m) o r more item is =
+    let same : suc m - 1 ≡ m = omega arith in is ∙ go o (subst (λ k. IsItemAt others k o) same item)
+  where
+    go : (p : Option (Bor Sealed)) → IsItemAt others m p → option_copied p ≡ slice_get others m
+    go None at = sym (slice_get_past others m at.3)
+    go (Some x) at = sym (slice_get_read others (length others) m x.now refl at.3.0 at.1)

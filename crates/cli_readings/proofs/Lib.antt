@@ -6,3 +6,4 @@ mod Rows
 pub mod VolumeExportLaws
 pub mod VolumeListLaws
 pub mod VolumeReportLaws
+pub mod VolumeTwiceLaws

@@ -1,5 +1,6 @@
 -- The definitions on worked rows.
 use Rattle.std.proofs.Common.{◌≡◌, ℕ, true, false, List, [], ◌∷◌, ◌++◌, map, codes, decimal, Option, None, Some, refl}
+use Rattle.std.proofs.Common.{Less, Equal, Greater}
 use Rattle.std.specs.Fmt.{digits}
 use Rattle.std.specs.Str.{chars, is_utf8}
 use lib.Utf8.{encode}
@@ -17,7 +18,7 @@ use Rattle.cli_page.specs.Names.{file_name}
 use Rattle.cli_page.specs.declared.report.Report.{Report}
 use Rattle.cli_readings.specs.Altered.{altered_words, one_words, several_words}
 use Rattle.cli_readings.specs.Exports.{altered_for, count_of, sealed_fields, subject_for, sum_line, without_again}
-use Rattle.cli_readings.specs.Groups.{Added, is_twice, with_key}
+use Rattle.cli_readings.specs.Groups.{Added, is_twice, place_order, with_key}
 use Rattle.cli_console.specs.Counts.{greatest, one_more}
 use Rattle.cli_readings.specs.Checks.{figures_of, no_figures, together}
 use Rattle.cli_readings.specs.Lists.{IsTextOf, end_of, head_of}
@@ -35,8 +36,11 @@ use Rattle.cli_readings.proofs.VolumeExportLaws.{none_of}
 
 -- ---- what was captured twice
 
+abbrev sealed_in : ℕ → ℕ → ℕ → Sealed
+sealed_in v n m = record { volume = v; number = n; message = m }
+
 abbrev sealed : ℕ → ℕ → Sealed
-sealed n m = record { number = n; message = m }
+sealed n m = sealed_in 1 n m
 
 -- four records, of which the first and the third have messages of one length and one sum
 abbrev added : List Added
@@ -51,6 +55,14 @@ records_are = refl
 twice_are : map is_twice ((sealed 1 1 ∷ sealed 5 5 ∷ []) ∷ (sealed 2 2 ∷ sealed 3 2 ∷ [])
     ∷ (sealed 2 2 ∷ sealed 3 2 ∷ sealed 7 7 ∷ []) ∷ (sealed 4 4 ∷ []) ∷ []) ≡ true ∷ false ∷ true ∷ false ∷ []
 twice_are = refl
+
+-- two messages of one number in two volumes; and of two records the one in the lower volume, and in one volume of the lower number
+twice_in_volumes : map is_twice ((sealed_in 1 4 2 ∷ sealed_in 3 9 2 ∷ []) ∷ (sealed_in 3 4 2 ∷ sealed_in 3 5 2 ∷ []) ∷ []) ≡ true ∷ false ∷ []
+twice_in_volumes = refl
+
+order_of_places : map (place_order (sealed_in 2 5 5)) (sealed_in 1 9 1 ∷ sealed_in 2 5 1 ∷ sealed_in 2 6 1 ∷ sealed_in 3 1 1 ∷ [])
+    ≡ Greater ∷ Equal ∷ Less ∷ Less ∷ []
+order_of_places = refl
 
 line_before : before_group Lines true (12, codes "ab") ≡ codes "octets 12 sha256 ab\n"
 unfolding digits is_utf8 chars encode

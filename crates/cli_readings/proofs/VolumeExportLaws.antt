@@ -8,14 +8,15 @@ use Rattle.record_archive.specs.Archive.{Archive, IsArchive}
 use Rattle.record_choice.specs.Entries.{RecordEntry as Entry, entry_view}
 use Rattle.record_choice.specs.declared.entry.RecordEntry.{RecordEntry}
 use Rattle.cli_choice.specs.declared.questions.Questions.{Questions}
-use Rattle.cli_console.specs.Finds.{found_in}
+use Rattle.cli_console.specs.Finds.{TakesThese, found_in}
 use Rattle.cli_console.specs.Sinks.{Writes, more_written, nothing_written}
 use Rattle.cli_history.specs.declared.seals.Seals.{Seals}
 use Rattle.cli_readings.specs.Exporting.{Exports, HandsOver, TurnsTo, more_over, no_count, nothing_over, parts_joined, with_parts}
 use Rattle.cli_readings.specs.Exports.{IsExportOf, count_of}
 use Rattle.cli_readings.specs.Parts.{Part, file_of, files_in, sum_of, sums_in}
 use Rattle.cli_readings.specs.VolumeExports.{AreExportsOf, Begins, ExportsVolume, HasExported, IsBegunBy, IsExportOfVolume, IsExportOfVolumes}
-use Rattle.cli_readings.specs.VolumeExports.{Share, files_of, share_of, sums_of}
+use Rattle.cli_readings.specs.VolumeExports.{ExportsIn, HasAsMuch, Share, files_of, share_of, sums_of, unseen}
+use Rattle.cli_readings.specs.VolumeReads.{is_any_more}
 use Rattle.cli_readings.specs.declared.exporting.Exporting.{Exporting}
 use Rattle.cli_readings.specs.declared.volume_exports.ExportOfVolumes.{ExportOfVolumes}
 use Rattle.cli_readings.proofs.Exported.{all_counted, exported_parts}
@@ -116,3 +117,25 @@ module _ {D : Type 0} (made : D → List Part → Type 0) where
   begun_by [] [] ahead x y some both begun = absurd (omega (arith, some))
   begun_by [] (p ∷ page) ahead x y some both begun = absurd (cc both)
   begun_by (e ∷ found) page ahead x y some both begun = begun
+
+-- ---- once what belongs to a volume has ended
+
+begun_more : {D : Type 0} (es : List RecordEntry) (found : List Entry) (old mid : ExportOfVolumes D) → map entry_view es ≡ found
+    → IsBegunBy found old mid → mid.is_begun ≡ is_any_more old.is_begun es
+begun_more [] found old mid are begun = ap (λ x. x.is_begun) (subst (λ f. IsBegunBy f old mid) (sym are) begun)
+begun_more (e ∷ es) found old mid are begun = subst (λ f. IsBegunBy f old mid) (sym are) begun
+
+pub exported_in : {D : Type 0} (v : ℕ) (a : Archive) (s : Seals) (found : List Entry) (old mid new : ExportOfVolumes D)
+    → TakesThese (λ x b es y. ExportsVolume unseen (share_of v b s es) x y) old a found mid → IsBegunBy found old mid → HasAsMuch mid new
+    → TakesThese (λ x b es y. ExportsIn v b es x y) old a found new
+exported_in v a s found old mid new took begun much = (
+  took.0,
+  took.1,
+  record {
+    seals = s;
+    exports = λ vs before had.
+        let h = took.2 vs before had in
+        record { parts = h.parts; are = h.are; writes = λ done all. tt; count = much.count ∙ h.count };
+    begun = much.begun ∙ begun_more took.0 found old mid took.1 begun;
+  },
+)

@@ -17,10 +17,18 @@ use Rattle.cli_readings.specs.declared.groups.Groups.{Groups}
 abbrev pub records_of : Group → List Sealed
 records_of g = g.first ∷ g.others.items
 
--- THE MESSAGE WAS CAPTURED TWICE that all of these records have by its octets: by its number, not all have the same one
+-- two records have one message: that of the same number, in the same volume
+abbrev pub has_one_message : Sealed → Sealed → Bool
+has_one_message r s = (s.message == r.message) && (s.volume == r.volume)
+
+-- THE MESSAGE WAS CAPTURED TWICE that all of these records have by its octets: by its number and volume, not all have the same one
 abbrev pub is_twice : List Sealed → Bool
 is_twice [] = false
-is_twice (r ∷ rs) = list_any (λ (s : Sealed). not (s.message == r.message)) rs
+is_twice (r ∷ rs) = list_any (λ (s : Sealed). not (has_one_message r s)) rs
+
+-- the order of records: by volume, and in one volume by number
+abbrev pub place_order : Sealed → Sealed → Ordering
+place_order r s = ordering_then (nat_cmp r.volume s.volume) (nat_cmp r.number s.number)
 
 -- ---- seals
 
@@ -91,7 +99,7 @@ pub record AreTwice (added : List Added) (groups : List KeyedGroup) : Type 0 whe
   pub twice : All (λ g. was_twice g ≡ true) groups
   pub each : All (λ e. is_twice (with_key e.0 added) ≡ true → IsListed groups e.0) added
   pub once : IsDistinct (λ (x y : OwnKey). is_same (key_of x) (key_of y)) (keys_of groups)
-  pub ordered : IsSortedByKey (λ (g : KeyedGroup). g.1.first.number) nat_cmp groups
+  pub ordered : IsSortedByKey (λ (g : KeyedGroup). g.1.first) place_order groups
 
 -- groups in the order of their seals, of which those were captured twice
 abbrev pub twice_in : BTreeMap OwnKey Group → List KeyedGroup

@@ -9,6 +9,8 @@ pub mod Parts
 pub mod Reports
 pub mod Shows
 pub mod Twice
+pub mod VolumeReads
 pub mod VolumeExports
 pub mod VolumeLists
 pub mod VolumeReports
+pub mod VolumeTwice

@@ -15,6 +15,7 @@ use Rattle.record_choice.specs.Entries.{RecordEntry as Entry, entry_of, entry_vi
 use Rattle.record_choice.specs.declared.entry.RecordEntry.{RecordEntry}
 use Rattle.record_history.specs.Events.{Seal}
 use Rattle.cli_readings.specs.Groups.{Added, AreGroupsOf, AreTwice, Key, KeyedGroup, key_of, records_of}
+use Rattle.cli_readings.specs.declared.groups.Groups.{Groups}
 use Rattle.cli_readings.specs.declared.groups.Sealed.{Sealed}
 use Rattle.cli_console.specs.Counts.{greatest, one_more}
 use Rattle.cli_console.specs.Sinks.{Writes, more_written, nothing_written}
@@ -39,22 +40,27 @@ abbrev pub IsKeyOf : Option (Seal × ℕ) → Archive → RecordEntry → Key �
 IsKeyOf (Some told) a e key = key ≡ length_and_sum told
 IsKeyOf None a e key = (octets : List ℕ) × (message a e.number ≡ Ok (Some octets)) × (key ≡ (length octets, shown_sum octets))
 
--- a record as it is gathered
-abbrev pub sealed : RecordEntry → Sealed
-sealed e = record { number = e.number; message = e.message }
+-- a record of a volume as it is gathered
+abbrev pub sealed : (volume : ℕ) → RecordEntry → Sealed
+sealed v e = record { volume = v; number = e.number; message = e.message }
 
--- THESE RECORDS ARE GATHERED by what stands for their messages, each once, in this order
-abbrev pub AreGathered : Archive → Seals → List RecordEntry → List Added → Type 0
-AreGathered a s [] gathered = gathered ≡ []
-AreGathered a s (e ∷ es) gathered =
-    (key : Key) × IsKeyOf (known s e.message) a e key × (rest : List Added) × AreGathered a s es rest × (gathered ≡ (key, sealed e) ∷ rest)
+-- THESE RECORDS OF A VOLUME ARE GATHERED by what stands for their messages, each once, in this order
+abbrev pub AreGathered : (volume : ℕ) → Archive → Seals → List RecordEntry → List Added → Type 0
+AreGathered v a s [] gathered = gathered ≡ []
+AreGathered v a s (e ∷ es) gathered =
+    (key : Key) × IsKeyOf (known s e.message) a e key
+    × (rest : List Added) × AreGathered v a s es rest × (gathered ≡ (key, sealed v e) ∷ rest)
 
--- THE GROUPS OF THE LIVE RECORDS OF AN ARCHIVE WHOSE MESSAGES WERE CAPTURED TWICE
-pub record AreCapturedTwice (a : Archive) (s : Seals) (groups : List KeyedGroup) : Type 0 where
+-- THE LIVE RECORDS OF A VOLUME ARE GATHERED, all of them, in the order in which they are listed
+pub record AreAllGathered (volume : ℕ) (a : Archive) (s : Seals) (gathered : List Added) : Type 0 where
   pub entries : List RecordEntry
   pub all : map entry_view entries ≡ every_live_entry a
+  pub each : AreGathered volume a s entries gathered
+
+-- THE GROUPS OF THE LIVE RECORDS OF AN ARCHIVE WHOSE MESSAGES WERE CAPTURED TWICE. An archive that is one file is its own first volume
+pub record AreCapturedTwice (a : Archive) (s : Seals) (groups : List KeyedGroup) : Type 0 where
   pub gathered : List Added
-  pub each : AreGathered a s entries gathered
+  pub all : AreAllGathered 1 a s gathered
   pub twice : AreTwice gathered groups
 
 -- ---- what is listed
@@ -108,24 +114,28 @@ pub record IsBeside (a : Archive) (l : Listing) (beside : List ℕ) (is_first : 
 abbrev pub AreBeside : Archive → Listing → (beside : List ℕ) → (is_first : Bool) → List Sealed → List ℕ → Type 0
 AreBeside a l beside is_first rs text = AreTexts (IsBeside a l beside) is_first rs text
 
--- THE TEXT OF A GROUP
-pub record IsGroupText (a : Archive) (l : Listing) (is_first : Bool) (g : KeyedGroup) (text : List ℕ) : Type 0 where
+-- which text is that of a record, behind what stands beside it
+abbrev pub RowTexts : Type 1
+RowTexts = (beside : List ℕ) → (is_first : Bool) → Sealed → List ℕ → Type 0
+
+-- THE TEXT OF A GROUP, by those of its records
+pub record IsGroupText (IsRow : RowTexts) (l : Listing) (is_first : Bool) (g : KeyedGroup) (text : List ℕ) : Type 0 where
   pub rows : List ℕ
-  pub are : AreBeside a l (beside_record l.format (key_of g.0)) true (records_of g.1) rows
+  pub are : AreTexts (IsRow (beside_record l.format (key_of g.0))) true (records_of g.1) rows
   pub whole : text ≡ before_group l.format is_first (key_of g.0) ++ rows ++ after_group l.format
 
 -- the text of these groups: that of each, once, in this order
-abbrev pub AreGroupTexts : Archive → Listing → (is_first : Bool) → List KeyedGroup → List ℕ → Type 0
-AreGroupTexts a l is_first gs text = AreTexts (IsGroupText a l) is_first gs text
+abbrev pub AreGroupTexts : RowTexts → Listing → (is_first : Bool) → List KeyedGroup → List ℕ → Type 0
+AreGroupTexts IsRow l is_first gs text = AreTexts (IsGroupText IsRow l) is_first gs text
 
 -- the records of all groups
 abbrev pub all_records : List KeyedGroup → List Sealed
 all_records groups = flat_map (λ g. records_of g.1) groups
 
 -- THE LIST OF THESE GROUPS
-pub record IsListOfGroups (a : Archive) (l : Listing) (groups : List KeyedGroup) (text : List ℕ) : Type 0 where
+pub record IsListOfGroups (IsRow : RowTexts) (l : Listing) (groups : List KeyedGroup) (text : List ℕ) : Type 0 where
   pub rows : List ℕ
-  pub are : AreGroupTexts a l true groups rows
+  pub are : AreGroupTexts IsRow l true groups rows
   pub whole : text ≡ head_beside l.format l.headers ++ rows ++ end_of l.format (min (length (all_records groups)) greatest)
 
 -- THE LIST OF WHAT WAS CAPTURED TWICE in an archive is written, and nothing else
@@ -134,7 +144,7 @@ pub record WritesTwice {K : Type 0} (written : K → List ℕ → Type 0) (l : L
   pub groups : List KeyedGroup
   pub are : AreCapturedTwice a s groups
   pub text : List ℕ
-  pub is : IsListOfGroups a l groups text
+  pub is : IsListOfGroups (IsBeside a l) l groups text
   pub writes : Writes written before after text
 
 -- ---- as it is gathered
@@ -142,9 +152,16 @@ pub record WritesTwice {K : Type 0} (written : K → List ℕ → Type 0) (l : L
 -- these records are gathered, each once, in this order, and no other
 pub record Gathers (old : Grouping) (a : Archive) (es : List RecordEntry) (new : Grouping) : Type 0 where
   pub gathered : List Added
-  pub are : AreGathered a old.seals es gathered
+  pub are : AreGathered old.volume a old.seals es gathered
   pub added : Writes AreGroupsOf old.groups new.groups gathered
+  pub volume : new.volume ≡ old.volume
   pub seals : new.seals ≡ old.seals
+
+-- the live records of a volume are gathered behind others, and no other
+pub record GathersAll (volume : ℕ) (a : Archive) (s : Seals) (before after : Groups) : Type 0 where
+  pub gathered : List Added
+  pub all : AreAllGathered volume a s gathered
+  pub added : Writes AreGroupsOf before after gathered
 
 -- ---- as it is listed
 
@@ -157,11 +174,11 @@ pub record AddsBeside {K : Type 0} (written : K → List ℕ → Type 0) (beside
   pub counted : new.count ≡ more_for rs old.count
   pub listing : new.listing ≡ old.listing
 
--- these groups are added, each once, in this order, and nothing else
-pub record AddsGroups {K : Type 0} (written : K → List ℕ → Type 0) (old : ListText K) (a : Archive) (gs : List KeyedGroup)
+-- these groups are added, by the texts of their records, each once, in this order, and nothing else
+pub record AddsGroups {K : Type 0} (written : K → List ℕ → Type 0) (IsRow : RowTexts) (old : ListText K) (gs : List KeyedGroup)
     (new : ListText K) : Type 0 where
   pub rows : List ℕ
-  pub are : AreGroupTexts a old.listing (old.count == 0) gs rows
+  pub are : AreGroupTexts IsRow old.listing (old.count == 0) gs rows
   pub added : Writes (HasText written) old new rows
   pub counted : new.count ≡ more_for (all_records gs) old.count
   pub listing : new.listing ≡ old.listing
@@ -192,27 +209,31 @@ pub untold : (o : Option (ℕ × Bor (List ℕ))) (k : Option (Seal × ℕ)) →
 untold o None same is = refl
 untold o (Some told) same is = let no = sym same ∙ ap (option_map (λ y. (y.0, y.1.now))) is in absurd cc
 
-gathered_joined : (a : Archive) (s : Seals) (es fs : List RecordEntry) (t u : List Added) → AreGathered a s es t → AreGathered a s fs u
-    → AreGathered a s (es ++ fs) (t ++ u)
-gathered_joined a s [] fs t u one other = subst (λ g. AreGathered a s fs (g ++ u)) (sym one) other
-gathered_joined a s (e ∷ es) fs t u one other =
-    (one.0, one.1, one.2 ++ u, gathered_joined a s es fs one.2 u one.3 other, ap (λ g. g ++ u) one.4)
+gathered_joined : (v : ℕ) (a : Archive) (s : Seals) (es fs : List RecordEntry) (t u : List Added) → AreGathered v a s es t
+    → AreGathered v a s fs u → AreGathered v a s (es ++ fs) (t ++ u)
+gathered_joined v a s [] fs t u one other = subst (λ g. AreGathered v a s fs (g ++ u)) (sym one) other
+gathered_joined v a s (e ∷ es) fs t u one other =
+    (one.0, one.1, one.2 ++ u, gathered_joined v a s es fs one.2 u one.3 other, ap (λ g. g ++ u) one.4)
 
 pub none_gathered : (x : Grouping) (a : Archive) → Gathers x a [] x
-none_gathered x a = record { gathered = []; are = refl; added = nothing_written AreGroupsOf x.groups; seals = refl }
+none_gathered x a = record { gathered = []; are = refl; added = nothing_written AreGroupsOf x.groups; volume = refl; seals = refl }
 
 pub more_gathered : (x y z : Grouping) (a : Archive) (es fs : List RecordEntry) → Gathers x a es y → Gathers y a fs z → Gathers x a (es ++ fs) z
 more_gathered x y z a es fs one other = record {
   gathered = one.gathered ++ other.gathered;
-  are = gathered_joined a x.seals es fs one.gathered other.gathered one.are (subst (λ s. AreGathered a s fs other.gathered) one.seals other.are);
+  are = gathered_joined x.volume a x.seals es fs one.gathered other.gathered one.are
+      (subst (λ v. AreGathered v a x.seals fs other.gathered) one.volume
+      (subst (λ s. AreGathered y.volume a s fs other.gathered) one.seals other.are));
   added = more_written AreGroupsOf x.groups y.groups z.groups one.gathered other.gathered one.added other.added;
+  volume = other.volume ∙ one.volume;
   seals = other.seals ∙ one.seals;
 }
 
 pub one_gathered : (x y : Grouping) (a : Archive) (e : RecordEntry) (key : Key) → IsKeyOf (known x.seals e.message) a e key
-    → Writes AreGroupsOf x.groups y.groups ((key, sealed e) ∷ []) → y.seals ≡ x.seals → Gathers x a (e ∷ []) y
-one_gathered x y a e key is writes same =
-    record { gathered = (key, sealed e) ∷ []; are = (key, is, [], refl, refl); added = writes; seals = same }
+    → Writes AreGroupsOf x.groups y.groups ((key, sealed x.volume e) ∷ []) → y.volume ≡ x.volume → y.seals ≡ x.seals
+    → Gathers x a (e ∷ []) y
+one_gathered x y a e key is writes at same =
+    record { gathered = (key, sealed x.volume e) ∷ []; are = (key, is, [], refl, refl); added = writes; volume = at; seals = same }
 
 -- a group has a record at least, so that none behind it is the first
 is_begun : (gs : List KeyedGroup) (n : ℕ) → (more_for (all_records gs) n == 0) ≡ first_after (n == 0) gs
@@ -271,31 +292,31 @@ module _ {K : Type 0} (written : K → List ℕ → Type 0) (a : Archive) where
       → AddsBeside written beside false x a (take i rs) y → AddsBeside written beside false x a rs y
   all_beside x y beside rs i end adds = subst (λ l. AddsBeside written beside false x a l y) (take_all i rs end) adds
 
+module _ {K : Type 0} (written : K → List ℕ → Type 0) (IsRow : RowTexts) where
   -- a group is the text before its records, that of these, and the text after them
-  pub one_group : (x y z u : ListText K) (g : KeyedGroup)
+  pub one_group : (x y z u : ListText K) (g : KeyedGroup) (rows : List ℕ)
       → Writes (HasText written) x y (before_group x.listing.format (x.count == 0) (key_of g.0)) → y.count ≡ x.count → y.listing ≡ x.listing
-      → AddsBeside written (beside_record x.listing.format (key_of g.0)) true y a (records_of g.1) z
+      → AreTexts (IsRow (beside_record x.listing.format (key_of g.0))) true (records_of g.1) rows → Writes (HasText written) y z rows
+      → z.count ≡ more_for (records_of g.1) y.count → z.listing ≡ y.listing
       → Writes (HasText written) z u (after_group x.listing.format) → u.count ≡ z.count → u.listing ≡ z.listing
-      → AddsGroups written x a (g ∷ []) u
-  one_group x y z u g before count same rows after counted listed =
+      → AddsGroups written IsRow x (g ∷ []) u
+  one_group x y z u g rows before count same are added more kept after counted listed =
       let front = before_group x.listing.format (x.count == 0) (key_of g.0) in
       let back = after_group x.listing.format in record {
-        rows = (front ++ rows.rows) ++ back;
-        are = one_text (IsGroupText a x.listing) (x.count == 0) g ((front ++ rows.rows) ++ back) (record {
-          rows = rows.rows;
-          are = subst (λ l. AreBeside a l (beside_record x.listing.format (key_of g.0)) true (records_of g.1) rows.rows) same rows.are;
-          whole = refl;
-        });
-        added = more_written (HasText written) x z u (front ++ rows.rows) back
-            (more_written (HasText written) x y z front rows.rows before rows.added) after;
-        counted = counted ∙ rows.counted ∙ ap (more_for (records_of g.1)) count
+        rows = (front ++ rows) ++ back;
+        are = one_text (IsGroupText IsRow x.listing) (x.count == 0) g ((front ++ rows) ++ back)
+            (record { rows = rows; are = are; whole = refl });
+        added = more_written (HasText written) x z u (front ++ rows) back
+            (more_written (HasText written) x y z front rows before added) after;
+        counted = counted ∙ more ∙ ap (more_for (records_of g.1)) count
             ∙ ap (λ rs. more_for rs x.count) (sym (append-nil (records_of g.1)));
-        listing = listed ∙ rows.listing ∙ same;
+        listing = listed ∙ kept ∙ same;
       }
 
   -- and stays so when it is written
-  pub groups_kept : (x y z : ListText K) (gs : List KeyedGroup) → AddsGroups written x a gs y → Lists written a y [] z → AddsGroups written x a gs z
-  groups_kept x y z gs adds kept = record {
+  pub groups_kept : (a : Archive) (x y z : ListText K) (gs : List KeyedGroup) → AddsGroups written IsRow x gs y → Lists written a y [] z
+      → AddsGroups written IsRow x gs z
+  groups_kept a x y z gs adds kept = record {
     rows = adds.rows;
     are = adds.are;
     added = subst (λ t. Writes (HasText written) x z t) (ap (λ t. adds.rows ++ t) kept.are ∙ append-nil adds.rows)
@@ -304,16 +325,16 @@ module _ {K : Type 0} (written : K → List ℕ → Type 0) (a : Archive) where
     listing = kept.listing ∙ adds.listing;
   }
 
-  pub no_groups : (x : ListText K) → AddsGroups written x a [] x
+  pub no_groups : (x : ListText K) → AddsGroups written IsRow x [] x
   no_groups x = record { rows = []; are = refl; added = nothing_written (HasText written) x; counted = refl; listing = refl }
 
-  more_groups : (x y z : ListText K) (gs hs : List KeyedGroup) → AddsGroups written x a gs y → AddsGroups written y a hs z
-      → AddsGroups written x a (gs ++ hs) z
+  more_groups : (x y z : ListText K) (gs hs : List KeyedGroup) → AddsGroups written IsRow x gs y → AddsGroups written IsRow y hs z
+      → AddsGroups written IsRow x (gs ++ hs) z
   more_groups x y z gs hs one other = record {
     rows = one.rows ++ other.rows;
-    are = texts_joined (IsGroupText a x.listing) (x.count == 0) gs hs one.rows other.rows one.are
-        (subst (λ l. AreGroupTexts a l (first_after (x.count == 0) gs) hs other.rows) one.listing
-        (subst (λ b. AreGroupTexts a y.listing b hs other.rows) (ap (λ n. n == 0) one.counted ∙ is_begun gs x.count) other.are));
+    are = texts_joined (IsGroupText IsRow x.listing) (x.count == 0) gs hs one.rows other.rows one.are
+        (subst (λ l. AreGroupTexts IsRow l (first_after (x.count == 0) gs) hs other.rows) one.listing
+        (subst (λ b. AreGroupTexts IsRow y.listing b hs other.rows) (ap (λ n. n == 0) one.counted ∙ is_begun gs x.count) other.are));
     added = more_written (HasText written) x y z one.rows other.rows one.added other.added;
     counted = other.counted ∙ ap (more_for (all_records hs)) one.counted ∙ counted_joined (all_records gs) (all_records hs) x.count
         ∙ ap (λ rs. more_for rs x.count) (sym (records_joined gs hs));
@@ -321,35 +342,34 @@ module _ {K : Type 0} (written : K → List ℕ → Type 0) (a : Archive) where
   }
 
   -- the next one of some groups is added
-  pub next_group : (x y z : ListText K) (gs : List KeyedGroup) (i : ℕ) (d : KeyedGroup) → i < length gs → AddsGroups written x a (take i gs) y
-      → AddsGroups written y a (get_or gs i d ∷ []) z → AddsGroups written x a (take (i + 1) gs) z
+  pub next_group : (x y z : ListText K) (gs : List KeyedGroup) (i : ℕ) (d : KeyedGroup) → i < length gs
+      → AddsGroups written IsRow x (take i gs) y → AddsGroups written IsRow y (get_or gs i d ∷ []) z
+      → AddsGroups written IsRow x (take (i + 1) gs) z
   next_group x y z gs i d there one other =
-      subst (λ l. AddsGroups written x a l z) (sym (take_more gs i d there)) (more_groups x y z (take i gs) (get_or gs i d ∷ []) one other)
+      subst (λ l. AddsGroups written IsRow x l z) (sym (take_more gs i d there)) (more_groups x y z (take i gs) (get_or gs i d ∷ []) one other)
 
-  pub all_groups : (x y : ListText K) (gs : List KeyedGroup) (i : ℕ) → length gs ≤ i → AddsGroups written x a (take i gs) y
-      → AddsGroups written x a gs y
-  all_groups x y gs i end adds = subst (λ l. AddsGroups written x a l y) (take_all i gs end) adds
+  pub all_groups : (x y : ListText K) (gs : List KeyedGroup) (i : ℕ) → length gs ≤ i → AddsGroups written IsRow x (take i gs) y
+      → AddsGroups written IsRow x gs y
+  all_groups x y gs i end adds = subst (λ l. AddsGroups written IsRow x l y) (take_all i gs end) adds
 
   -- a list that has begun with its head, has these groups added to it and is ended with its end is that of these groups
-  pub whole_twice : (l : Listing) (s : Seals) (before : K) (gs : List KeyedGroup) (x y z u : ListText K) → AreCapturedTwice a s gs → x.sink ≡ before
-      → x.listing ≡ l → x.text.items ≡ [] → x.count ≡ 0 → Writes (HasText written) x y (head_beside l.format l.headers) → y.count ≡ x.count
-      → y.listing ≡ x.listing → AddsGroups written y a gs z → Writes (HasText written) z u (end_of z.listing.format z.count)
-      → u.text.items ≡ [] → WritesTwice written l s before a u.sink
-  whole_twice l s before gs x y z u twice sink listing empty none head count same added end all =
+  pub whole_twice : (l : Listing) (before : K) (gs : List KeyedGroup) (x y z u : ListText K) → x.sink ≡ before
+      → x.listing ≡ l → x.text.items ≡ [] → x.count ≡ 0 → Writes (HasText written) x y (head_beside l.format l.headers)
+      → y.count ≡ x.count → y.listing ≡ x.listing → AddsGroups written IsRow y gs z → Writes (HasText written) z u (end_of z.listing.format z.count)
+      → u.text.items ≡ [] → (text : List ℕ) × IsListOfGroups IsRow l gs text × Writes written before u.sink text
+  whole_twice l before gs x y z u sink listing empty none head count same added end all =
       let counted : z.count ≡ min (length (all_records gs)) greatest =
       added.counted ∙ ap (more_for (all_records gs)) (count ∙ none) ∙ count_of (all_records gs) 0 (omega arith)
       ∙ ap (λ n. min n greatest) (zero-add (length (all_records gs))) in
       let is : y.listing ≡ l = same ∙ listing in
       let ended : end_of z.listing.format z.count ≡ end_of l.format (min (length (all_records gs)) greatest) =
       ap (λ k. end_of k.format z.count) (added.listing ∙ is) ∙ ap (end_of l.format) counted in
-      let rows = subst (λ k. AreGroupTexts a k true gs added.rows) is
-      (subst (λ n. AreGroupTexts a y.listing (n == 0) gs added.rows) (count ∙ none) added.are) in
+      let rows = subst (λ k. AreGroupTexts IsRow k true gs added.rows) is
+      (subst (λ n. AreGroupTexts IsRow y.listing (n == 0) gs added.rows) (count ∙ none) added.are) in
       let head_text = head_beside l.format l.headers in
-      let end_text = end_of l.format (min (length (all_records gs)) greatest) in record {
-        groups = gs;
-        are = twice;
-        text = head_text ++ added.rows ++ end_text;
-        is = record { rows = added.rows; are = rows; whole = refl };
-        writes = whole_text written before head_text added.rows end_text x y z u sink empty head added.added
-            (subst (λ t. Writes (HasText written) z u t) ended end) all;
-      }
+      let end_text = end_of l.format (min (length (all_records gs)) greatest) in (
+        head_text ++ added.rows ++ end_text,
+        record { rows = added.rows; are = rows; whole = refl },
+        whole_text written before head_text added.rows end_text x y z u sink empty head added.added
+            (subst (λ t. Writes (HasText written) z u t) ended end) all,
+      )

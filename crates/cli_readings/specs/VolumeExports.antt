@@ -1,5 +1,5 @@
 -- The export of an archive of volumes: the exports of the records of each volume, one after another, to one destination.
-use Rattle.std.specs.Prelude.{◌≡◌, ℕ, true, List, [], ◌∷◌, ◌++◌, flat_map, map, Option, Some, None, if◌then◌else◌}
+use Rattle.std.specs.Prelude.{◌≡◌, ℕ, true, false, List, [], ◌∷◌, ◌++◌, flat_map, map, Option, Some, None, if◌then◌else◌, ⊤}
 use Rattle.record_archive.specs.Archive.{Archive}
 use Rattle.record_choice.specs.Entries.{RecordEntry as Entry}
 use Rattle.record_choice.specs.declared.entry.RecordEntry.{RecordEntry}
@@ -8,6 +8,7 @@ use Rattle.cli_history.specs.declared.seals.Seals.{Seals}
 use Rattle.cli_readings.specs.Exporting.{HandsOver}
 use Rattle.cli_readings.specs.Exports.{IsExportOf, count_of, file_for, filed, sum_for}
 use Rattle.cli_readings.specs.Parts.{Part, files_in, sums_in}
+use Rattle.cli_readings.specs.VolumeReads.{is_any_more}
 use Rattle.cli_readings.specs.declared.outgoing.Outgoing.{Outgoing}
 use Rattle.cli_readings.specs.declared.volume_exports.ExportOfVolumes.{ExportOfVolumes}
 
@@ -70,3 +71,25 @@ IsBegunBy (e ∷ es) old new = new.is_begun ≡ true
 -- what went out of it, if it has begun
 abbrev pub out_of : {D : Type 0} → ExportOfVolumes D → Option (Outgoing D)
 out_of x = if x.is_begun then Some x.exporting.out else None
+
+-- ---- to a folder, of which nothing is claimed
+
+abbrev pub unseen : {D : Type 0} → D → List Part → Type 0
+unseen folder parts = ⊤
+
+-- nothing is exported yet
+pub record IsNothing {D : Type 0} (x : ExportOfVolumes D) : Type 0 where
+  pub before : D
+  pub has : HasExported unseen [] before x
+  pub begun : x.is_begun ≡ false
+
+-- as much is exported as before
+pub record HasAsMuch {D : Type 0} (old new : ExportOfVolumes D) : Type 0 where
+  pub count : new.exporting.out.count ≡ old.exporting.out.count
+  pub begun : new.is_begun ≡ old.is_begun
+
+-- THE RECORDS OF A NEXT VOLUME ARE EXPORTED, by some seals of its messages; the export has begun once there is one
+pub record ExportsIn {D : Type 0} (volume : ℕ) (a : Archive) (es : List RecordEntry) (old new : ExportOfVolumes D) : Type 0 where
+  pub seals : Seals
+  pub exports : ExportsVolume unseen (share_of volume a seals es) old new
+  pub begun : new.is_begun ≡ is_any_more old.is_begun es

@@ -112,7 +112,7 @@ impl Altered {
     }
 
     /// The same of records of a volume, which is named.
-    pub(crate) fn tell_in(&self, rt: &HostRuntime, volume: Option<u32>) -> Result<(), AllocError> {
+    pub fn tell_in(&self, rt: &HostRuntime, volume: Option<u32>) -> Result<(), AllocError> {
         if !self.is_empty() {
             tell(
                 rt,

@@ -6,17 +6,18 @@ ghost use Rattle.record_choice.specs.Reads.{OnlyReads};
 ghost use Rattle.cli_console.specs.Failures.{IsToldAs};
 ghost use Rattle.cli_console.specs.Finds.{found_in};
 ghost use Rattle.cli_console.specs.declared.failure.Status.TheVariants.{BadData};
+ghost use Rattle.cli_history.specs.Walks.{Glances};
 ghost use Rattle.cli_readings.specs.Ends.{IsEnded};
 ghost use Rattle.cli_readings.specs.Exports.{ExportsFound, exported_text};
 
 use crate::conditions::conditions_of;
-use crate::destination::{Destination, Folder, INDEX};
+use crate::destination::{Destination, Folder, INDEX, Noted};
 use crate::exporting::{Exporting, line_of};
 use crate::folder::{make_file, write_to};
 use crate::outgoing::{Count, Outgoing};
 use cli_choice::Questions;
 use cli_console::{Failure, Search, Status, now, write_text};
-use cli_history::{Extract, Seals, Subjects};
+use cli_history::{Extract, Seals};
 use cli_page::{Index, IndexHeading, Order, Page, history_name};
 use cli_texts::{moment_text, sum_text};
 use command_lines::archives::{Choice, Sorting, Target};
@@ -87,7 +88,9 @@ fn write_events<S: Alter>(
     folder: &str,
     name: &str,
     extract: &mut Extract<'_>,
-) -> Result<[u8; 32], Failure> {
+) -> Result<[u8; 32], Failure>
+    ensures { Glances S.Store archive.old archive.new }
+{
     let mut file = make_file(rt, folder, name)?;
     let mut hasher = Sha256::new();
     for _ in 0..u64::MAX {
@@ -109,15 +112,18 @@ struct HistoryFile {
     told: Result<(), Failure>,
 }
 
-/// Writes the events of some records to a new file of a folder, where the store keeps a history.
+/// Writes the events of the records that are noted to a new file of a folder, where the store keeps a history.
 fn write_history<S: Alter>(
     rt: &HostRuntime,
     archive: &mut Store<S>,
     folder: &str,
     name: &str,
-    subjects: &Subjects,
-) -> Result<Option<HistoryFile>, Failure> {
-    let Some(extract) = Extract::of(rt.alloc(), archive, subjects)? else {
+    noted: &Noted,
+) -> Result<Option<HistoryFile>, Failure>
+    ensures { Glances S.Store archive.old archive.new }
+{
+    let extract = Extract::of(rt.alloc(), archive, noted.volume, &noted.subjects)?;
+    let Some(extract) = extract else {
         return Ok(None);
     };
     let mut extract = extract;
@@ -133,11 +139,13 @@ pub(crate) fn export_history<S: Alter>(
     rt: &HostRuntime,
     archive: &mut Store<S>,
     folder: &mut Folder<'_>,
-) -> Result<Result<(), Failure>, Failure> {
+) -> Result<Result<(), Failure>, Failure>
+    ensures { Glances S.Store archive.old archive.new }
+{
     let volume = folder.noted.volume;
     let name = history_name(rt.alloc(), volume)?;
     let name = name.as_str();
-    let written = write_history(rt, archive, folder.path, name, &folder.noted.subjects)?;
+    let written = write_history(rt, archive, folder.path, name, &folder.noted)?;
     let Some(written) = written else {
         return Ok(Ok(()));
     };

@@ -1,19 +1,39 @@
 //! Which messages were captured twice, octet by octet.
 
-ghost use Rattle.std.specs.Prelude.{◌≡◌, ◌++◌, [], ◌∷◌, List, OnOk, IfOk, filter};
+ghost use Rattle.std.specs.Prelude.{◌≡◌, ◌++◌, [], ◌∷◌, List, OnOk, IfOk, filter, slice_get};
 ghost use Rattle.std.specs.BTreeMap.{IsOrdered};
 ghost use Rattle.std.specs.List.Sorted.{IsPermutation, IsSortedByKey};
-ghost use Rattle.std.specs.Ordering.{nat_cmp};
-ghost use Rattle.cli_readings.specs.Groups.{Added, AreGroupsOf, AreTwice, KeyedGroup, is_twice, key_of, order_of, records_of, twice_in, was_twice};
+ghost use Rattle.cli_readings.specs.Groups.{Added, AreGroupsOf, AreTwice, KeyedGroup, has_one_message, is_twice, key_of, order_of, place_order, records_of, twice_in, was_twice};
 
 use std::alloc::{AllocError, Global};
+use std::cmp::Ordering;
 use std::collections::BTreeMap;
 
 /// A record, and the message that it has, both by number.
 #[derive(Clone, Copy)]
 pub(crate) struct Sealed {
+    /// The number of the volume that it is in. A store that is one file is its own first volume.
+    pub(crate) volume: u32,
     pub(crate) number: u32,
     pub(crate) message: u32,
+}
+
+impl Sealed {
+    /// Whether it has the message of another record: one of the same number in the same volume.
+    fn has_message_of(self, other: Sealed) -> bool
+        ensures { result ≡ has_one_message other self }
+    {
+        self.message == other.message && self.volume == other.volume
+    }
+
+    /// Which of two records comes first: that of the first volume, and in one volume that of the lower number.
+    fn order(self, other: Sealed) -> Ordering
+        ensures { result ≡ place_order self other }
+    {
+        self.volume
+            .cmp(&other.volume)
+            .then(self.number.cmp(&other.number))
+    }
 }
 
 /// The records whose messages have the same seal. There is one at least.
@@ -57,20 +77,30 @@ impl Group {
         self.others.as_slice()
     }
 
-    /// Whether its message was captured twice: two of the records have messages of different numbers. Records of one capture,
-    /// in several classes, have one message.
+    /// The record of a place among them, if there are so many.
+    pub(crate) fn record(&self, place: usize) -> Option<Sealed>
+        ensures { result ≡ slice_get (records_of self.now) place }
+    {
+        if place == 0 {
+            return Some(self.first);
+        }
+        self.others.as_slice().get(place - 1).copied()
+    }
+
+    /// Whether its message was captured twice: two of the records have messages of different numbers, or of different volumes.
+    /// Records of one capture, in several classes, have one message.
     pub(crate) fn is_twice(&self) -> bool
         ensures { result ≡ is_twice (records_of self.now) }
     {
-        let first = self.first.message;
-        self.others.iter().any(|other| other.message != first)
+        let first = self.first;
+        self.others.iter().any(|other| !other.has_message_of(first))
     }
 }
 
 /// What stands for a message: how many octets it has, and their SHA-256 in hexadecimal digits.
 pub(crate) type SealKey = (u64, Vec<u8>);
 
-/// The records of an archive by the seals of their messages. Each takes as much memory, however long its message is.
+/// The records of one or more stores by the seals of their messages. Each takes as much memory, however long its message is.
 #[derive(Drop)]
 pub(crate) struct Groups {
     alloc: Global,
@@ -92,9 +122,9 @@ fn push_twice(twice: &mut Vec<(SealKey, Group)>, keyed: (SealKey, Group)) -> Res
 fn sort_by_first(groups: &mut Vec<(SealKey, Group)>) -> Result<(), AllocError>
     ensures each { IsPermutation groups.old.items groups.new.items }
     ensures ordered { OnOk result
-        (IsSortedByKey (λ (g : KeyedGroup). g.1.first.number) nat_cmp groups.new.items) }
+        (IsSortedByKey (λ (g : KeyedGroup). g.1.first) place_order groups.new.items) }
 {
-    groups.sort_by(|one, other| one.1.first.number.cmp(&other.1.first.number))
+    groups.sort_by(|one, other| one.1.first.order(other.1.first))
 }
 
 impl Groups {

@@ -7,8 +7,8 @@
 //! - `altered`: records whose messages are not the ones that were captured;
 //! - `folder`: the files of an export;
 //! - `sums`: what a copy is compared by;
-//! - `volume_lists`, `volume_exports` and `volume_reports`: what `list` lists, `export` exports and `report` reports of an archive of
-//!   volumes.
+//! - `volume_reader`: who reads the records of an archive of volumes; `volume_lists`, `volume_twice`, `volume_exports` and
+//!   `volume_reports`: what `list` lists, `export` exports and `report` reports of one.
 //!
 //! Each works on a store that is lent to it. What a list, a check, a report and an export hand over, contracts say; that it
 //! comes to a terminal or a file, tests of the program show.
@@ -31,7 +31,9 @@ mod sums;
 mod twice;
 mod volume_exports;
 mod volume_lists;
+mod volume_reader;
 mod volume_reports;
+mod volume_twice;
 mod why;
 
 pub use altered::Altered;
@@ -45,5 +47,7 @@ pub use sums::{Judged, Summary, judged_summary, summary_of};
 pub use twice::write_twice;
 pub use volume_exports::VolumeExport;
 pub use volume_lists::VolumeList;
+pub use volume_reader::VolumeReader;
 pub use volume_reports::VolumeReport;
+pub use volume_twice::{TwiceGroups, TwiceList};
 pub use why::{Captured, read_captured, write_why};

@@ -4,6 +4,7 @@ ghost use Rattle.std.specs.Prelude.{◌≡◌, ◌∷◌, ◌++◌, [], ℕ, Lis
 ghost use Rattle.record_archive.specs.Archive.{Archive};
 ghost use Rattle.record_choice.specs.Reads.{OnlyReads};
 ghost use Rattle.cli_console.specs.Headers.{AreTextsOf};
+ghost use Rattle.cli_console.specs.Counts.{one_more};
 ghost use Rattle.cli_console.specs.Finds.{IsAtEnd, IsBounded, TakesThese, found_ahead, found_in};
 ghost use Rattle.cli_readings.specs.Ends.{IsEnded};
 ghost use Rattle.cli_readings.specs.Lists.{HasText, IsHeaderOf, IsRowOf, IsTextOf, Lists, PushesRow, WritesList, end_of, head_of, more_listed, none_listed};
@@ -160,6 +161,17 @@ impl<'a, K: Sink + Drop> ListText<'a, K> {
         ensures listing { OnOk result (self.new.listing ≡ self.old.listing) }
     {
         self.text.extend_from_slice(text.as_bytes())?;
+        Ok(())
+    }
+
+    /// Adds the row of a record, as it was kept, to what is to be written.
+    pub(crate) fn push_kept(&mut self, row: &[u8]) -> Result<(), AllocError>
+        ensures text { OnOk result (Writes (HasText K.written) self.old self.new row.now) }
+        ensures count { OnOk result (self.new.count ≡ one_more self.old.count) }
+        ensures listing { OnOk result (self.new.listing ≡ self.old.listing) }
+    {
+        self.text.extend_from_slice(row)?;
+        self.count = self.count.saturating_add(1);
         Ok(())
     }
 

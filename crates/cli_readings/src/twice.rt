@@ -7,7 +7,23 @@ ghost use Rattle.cli_history.specs.Seals.{known};
 ghost use Rattle.cli_readings.specs.Groups.{key_of, records_of};
 ghost use Rattle.cli_readings.specs.Lists.{PushesRow};
 ghost use Rattle.cli_readings.specs.Shows.{IsEntryOf};
-ghost use Rattle.cli_readings.specs.Twice.{AddsBeside, AddsGroups, AreCapturedTwice, Gathers, IsKeyOf, WritesTwice, after_group, before_group, beside_record, head_beside, more_gathered, none_gathered, sum_text as sum_text_of};
+ghost use Rattle.cli_readings.specs.Twice.{
+  AddsBeside,
+  AddsGroups,
+  AreCapturedTwice,
+  Gathers,
+  GathersAll,
+  IsBeside,
+  IsKeyOf,
+  WritesTwice,
+  after_group,
+  before_group,
+  beside_record,
+  head_beside,
+  more_gathered,
+  none_gathered,
+  sum_text as sum_text_of,
+};
 
 use crate::groups::{Group, Groups, SealKey, Sealed};
 use crate::list::{ListText, headers_of_record};
@@ -54,10 +70,11 @@ fn seal_of_record<R: Repository<Fault = StoreFault>>(
     Ok((octets, Vec::from_slice(rt.alloc(), sum)?))
 }
 
-/// Live records, as they are gathered.
+/// The live records of a volume, as they are gathered.
 #[derive(Drop)]
 struct Grouping<'a> {
     rt: &'a HostRuntime,
+    volume: u32,
     seals: Seals,
     groups: Groups,
 }
@@ -73,6 +90,7 @@ impl Reader for Grouping<'_> {
     ) -> Result<(), Failure> {
         let seal = seal_of_record(self.rt, archive, &self.seals, entry)?;
         let sealed = Sealed {
+            volume: self.volume,
             number: entry.number,
             message: entry.message,
         };
@@ -83,6 +101,30 @@ impl Reader for Grouping<'_> {
     ghost takes_none = { λ grouping a. none_gathered grouping a };
 
     ghost takes_more = { λ x y z a es fs one other. more_gathered x y z a es fs one other };
+}
+
+/// Gathers the live records of a volume behind others, by what stands for their messages: what these seals tell, or else their own
+/// lengths and sums. A failure is that of the store, or no memory.
+pub(crate) fn gather<R: Repository<Fault = StoreFault>>(
+    rt: &HostRuntime,
+    archive: &mut R,
+    volume: u32,
+    seals: Seals,
+    groups: Groups,
+) -> Result<Groups, Failure>
+    ensures reads { OnlyReads R.clean R.stands archive.old archive.new }
+    ensures gathered { IfOk result (λ after. R.clean archive.new → (a : Archive)
+        → R.stands archive.old a → GathersAll volume a seals groups after) }
+{
+    let mut grouping = Grouping {
+        rt,
+        volume,
+        seals,
+        groups,
+    };
+    read_chosen(rt, archive, &Choice::live(), &mut grouping)?;
+    let Grouping { groups, .. } = grouping;
+    Ok(groups)
 }
 
 /// The groups of the live records whose messages were captured twice, in the order of their first records, with what stands for
@@ -96,13 +138,7 @@ fn groups_of<R: Repository<Fault = StoreFault>>(
     ensures twice { IfOk result (λ groups. R.clean archive.new → (a : Archive)
         → R.stands archive.old a → AreCapturedTwice a seals groups.items) }
 {
-    let mut grouping = Grouping {
-        rt,
-        seals,
-        groups: Groups::new(rt.alloc()),
-    };
-    read_chosen(rt, archive, &Choice::live(), &mut grouping)?;
-    let Grouping { groups, .. } = grouping;
+    let groups = gather(rt, archive, 1, seals, Groups::new(rt.alloc()))?;
     Ok(groups.into_twice()?)
 }
 
@@ -117,7 +153,7 @@ fn sum_text(seal: &SealKey) -> &str
 }
 
 /// What stands before the records of a group.
-fn text_before(
+pub(crate) fn text_before(
     alloc: Global,
     format: Format,
     seal: &SealKey,
@@ -139,7 +175,11 @@ fn text_before(
 }
 
 /// What stands before each record of a group.
-fn text_beside(alloc: Global, format: Format, seal: &SealKey) -> Result<String, AllocError>
+pub(crate) fn text_beside(
+    alloc: Global,
+    format: Format,
+    seal: &SealKey,
+) -> Result<String, AllocError>
     ensures { IfOk result (λ text. string_bytes text ≡ beside_record format (key_of seal.now)) }
 {
     let octets = seal.0;
@@ -151,7 +191,7 @@ fn text_beside(alloc: Global, format: Format, seal: &SealKey) -> Result<String, 
 }
 
 /// What stands after the records of a group.
-fn text_after(format: Format) -> &'static str
+pub(crate) fn text_after(format: Format) -> &'static str
     ensures { result.now ≡ after_group format }
 {
     match format {
@@ -196,7 +236,7 @@ fn push_entry<R: Repository<Fault = StoreFault>, K: Sink + Drop>(
 }
 
 /// Adds a record of a group to a list, and before it what stands beside it.
-fn add_record<R: Repository<Fault = StoreFault>, K: Sink + Drop>(
+pub(crate) fn add_record<R: Repository<Fault = StoreFault>, K: Sink + Drop>(
     archive: &mut R,
     list: &mut ListText<'_, K>,
     sealed: Sealed,
@@ -254,7 +294,7 @@ fn add_group<R: Repository<Fault = StoreFault>, K: Sink + Drop>(
 ) -> Result<(), Failure>
     ensures reads { OnlyReads R.clean R.stands archive.old archive.new }
     ensures added { OnOk result (R.clean archive.new → (a : Archive) → R.stands archive.old a
-        → AddsGroups K.written list.old a (keyed.now ∷ []) list.new) }
+        → AddsGroups K.written (IsBeside a list.old.listing) list.old (keyed.now ∷ []) list.new) }
 {
     let alloc = list.rt.alloc();
     let format = list.listing.format;
@@ -274,7 +314,7 @@ fn write_group<R: Repository<Fault = StoreFault>, K: Sink + Drop>(
 ) -> Result<(), Failure>
     ensures reads { OnlyReads R.clean R.stands archive.old archive.new }
     ensures added { OnOk result (R.clean archive.new → (a : Archive) → R.stands archive.old a
-        → AddsGroups K.written list.old a (keyed.now ∷ []) list.new) }
+        → AddsGroups K.written (IsBeside a list.old.listing) list.old (keyed.now ∷ []) list.new) }
 {
     add_group(archive, list, keyed)?;
     list.write()?;
@@ -289,7 +329,7 @@ fn write_groups<R: Repository<Fault = StoreFault>, K: Sink + Drop>(
 ) -> Result<(), Failure>
     ensures reads { OnlyReads R.clean R.stands archive.old archive.new }
     ensures added { OnOk result (R.clean archive.new → (a : Archive) → R.stands archive.old a
-        → AddsGroups K.written list.old a groups.now list.new) }
+        → AddsGroups K.written (IsBeside a list.old.listing) list.old groups.now list.new) }
 {
     for keyed in groups {
         write_group(archive, list, keyed)?;
@@ -298,7 +338,7 @@ fn write_groups<R: Repository<Fault = StoreFault>, K: Sink + Drop>(
 }
 
 /// What stands before all groups.
-fn text_first(alloc: Global, listing: Listing) -> Result<String, AllocError>
+pub(crate) fn text_first(alloc: Global, listing: Listing) -> Result<String, AllocError>
     ensures { IfOk result (λ text. string_bytes text
         ≡ head_beside listing.format listing.headers) }
 {

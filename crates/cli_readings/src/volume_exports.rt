@@ -1,17 +1,19 @@
 //! `export` over an archive of volumes: the records of one volume after another, with one manifest, one list of sums and one index.
 
-ghost use Rattle.std.specs.Prelude.{◌≡◌, [], IfOk, OnOk, false};
+ghost use Rattle.std.specs.Prelude.{◌≡◌, [], IfOk, OnOk, false, true};
 ghost use Rattle.record_archive.specs.Archive.{Archive};
 ghost use Rattle.record_choice.specs.Reads.{OnlyReads};
 ghost use Rattle.cli_console.specs.Finds.{TakesThese, found_in};
+ghost use Rattle.cli_history.specs.Walks.{Glances};
 ghost use Rattle.cli_readings.specs.Ends.{IsEnded};
-ghost use Rattle.cli_readings.specs.VolumeExports.{Begins, ExportsVolume, HasExported, IsBegunBy, out_of, share_of};
+ghost use Rattle.cli_readings.specs.VolumeExports.{Begins, ExportsIn, ExportsVolume, HasAsMuch, HasExported, IsBegunBy, IsNothing, out_of, share_of};
 
 use crate::conditions::conditions_over;
 use crate::destination::{Destination, Folder};
 use crate::export::{export_history, finish, nothing_exported};
 use crate::exporting::Exporting;
 use crate::outgoing::Outgoing;
+use crate::volume_reader::VolumeReader;
 use cli_choice::Questions;
 use cli_console::{Failure, Joined, Search, told_now};
 use cli_history::Seals;
@@ -110,7 +112,9 @@ pub struct VolumeExport<'a> {
 
 impl<'a> VolumeExport<'a> {
     /// An export of nothing yet, of an archive whose last volume has this number.
-    pub fn new(rt: &'a HostRuntime, target: Target<'a>, last: u32) -> VolumeExport<'a> {
+    pub fn new(rt: &'a HostRuntime, target: Target<'a>, last: u32) -> VolumeExport<'a>
+        ensures { IsNothing result.export }
+    {
         let folder = Folder::new(rt, target.folder, Some(last));
         VolumeExport {
             export: ExportOfVolumes::new(rt, folder),
@@ -127,7 +131,12 @@ impl<'a> VolumeExport<'a> {
         archive: &mut Store<S>,
         volume: u32,
         joined: &mut Joined,
-    ) -> Result<(), Failure> {
+    ) -> Result<(), Failure>
+        ensures glances { Glances S.Store archive.old archive.new }
+        ensures kept { HasAsMuch self.old.export self.new.export }
+        ensures refused { OnOk result (joined.new.is_refused ≡ false
+            → joined.old.is_refused ≡ false) }
+    {
         let folder = &mut self.export.exporting.out.destination;
         if folder.noted.volume != Some(volume) {
             return Ok(());
@@ -139,11 +148,36 @@ impl<'a> VolumeExport<'a> {
         joined.add(told_now(rt, told))
     }
 
-    /// Exports the records of a volume that meet a choice, and whose messages have what is asked of them, and their events, where the
-    /// volume keeps a history. `BadData` where the class is none of the plan of the volume. `BadData` also where a number that is
-    /// typed by itself is not found, where a message is not the one that was captured, and where something stands against the
-    /// history: that is reported, and all else of the volume is exported.
-    pub fn add_volume<S: Alter>(
+    /// Writes the lists and the index of what was exported, with the folder of the archive and what was asked for, and then how much
+    /// it is. Where the index is missing, the export was cut off. `BadData` where no record was found in any volume, and where
+    /// something was refused in one, which was reported.
+    pub fn end(
+        self,
+        rt: &HostRuntime,
+        folder: &str,
+        typed: &TypedChoice<'_>,
+        joined: Joined,
+    ) -> Result<(), Failure>
+        ensures some { OnOk result (self.entry.export.is_begun ≡ true) }
+        ensures well { OnOk result (joined.is_refused ≡ false) }
+    {
+        let VolumeExport { export, target } = self;
+        let Some(out) = export.into_outgoing() else {
+            joined.end()?;
+            return Err(nothing_exported(rt.alloc()));
+        };
+        let conditions = conditions_over(rt.alloc(), typed)?;
+        finish(rt, out, folder, conditions.as_deref(), target)?;
+        joined.end()
+    }
+}
+
+impl VolumeReader for VolumeExport<'_> {
+    ghost takes = { λ volume old a es new. ExportsIn volume a es old.export new.export };
+
+    /// Exports the records, and their events, where the volume keeps a history. `BadData` also where a message is not the one that was
+    /// captured, and where something stands against the history: that is reported, and all else of the volume is exported.
+    fn read_volume<S: Alter>(
         &mut self,
         rt: &HostRuntime,
         archive: &mut Store<S>,
@@ -158,26 +192,6 @@ impl<'a> VolumeExport<'a> {
             .add_volume(rt, archive, volume, choice, questions, seals)?;
         joined.add(search.end_in(rt, archive, Some(volume)))?;
         self.end_volume(rt, archive, volume, &mut joined)?;
-        joined.end()
-    }
-
-    /// Writes the lists and the index of what was exported, with the folder of the archive and what was asked for, and then how much
-    /// it is. Where the index is missing, the export was cut off. `BadData` where no record was found in any volume, and where
-    /// something was refused in one, which was reported.
-    pub fn end(
-        self,
-        rt: &HostRuntime,
-        folder: &str,
-        typed: &TypedChoice<'_>,
-        joined: Joined,
-    ) -> Result<(), Failure> {
-        let VolumeExport { export, target } = self;
-        let Some(out) = export.into_outgoing() else {
-            joined.end()?;
-            return Err(nothing_exported(rt.alloc()));
-        };
-        let conditions = conditions_over(rt.alloc(), typed)?;
-        finish(rt, out, folder, conditions.as_deref(), target)?;
         joined.end()
     }
 }

@@ -8,11 +8,13 @@ ghost use Rattle.cli_readings.specs.Ends.{IsEnded};
 ghost use Rattle.cli_readings.specs.VolumeLists.{AddsVolume, Begins, Ends, IsNew, head_unless};
 
 use crate::list::{ListText, add_found, text_before};
+use crate::volume_reader::VolumeReader;
 use cli_choice::Questions;
 use cli_console::{Failure, Search, Sink};
 use command_lines::archives::{Choice, Listing};
 use record_choice::Repository;
-use record_store::StoreFault;
+use record_store::{Store, StoreFault};
+use sqlite::Alter;
 
 /// A list of the records of several volumes.
 #[derive(Drop)]
@@ -52,7 +54,7 @@ impl<'a, K: Sink + Drop> VolumeList<'a, K> {
 
     /// Adds the records of a volume that meet a choice, and whose messages have what is asked of them. Answers the search, which
     /// is at its end. `BadData` where the class is none of the plan of the volume.
-    pub fn add_volume<'s, 'c, R: Repository<Fault = StoreFault>>(
+    fn add_volume<'s, 'c, R: Repository<Fault = StoreFault>>(
         &mut self,
         rt: &HostRuntime,
         archive: &mut R,
@@ -84,5 +86,21 @@ impl<'a, K: Sink + Drop> VolumeList<'a, K> {
         let VolumeList { list, .. } = whole;
         let ListText { sink, .. } = list;
         Ok(sink)
+    }
+}
+
+impl<K: Sink + Drop> VolumeReader for VolumeList<'_, K> {
+    ghost takes = { λ volume old a es new. AddsVolume K.written a volume old es new };
+
+    fn read_volume<S: Alter>(
+        &mut self,
+        rt: &HostRuntime,
+        archive: &mut Store<S>,
+        volume: u32,
+        choice: &Choice<'_>,
+        questions: &Questions,
+    ) -> Result<(), Failure> {
+        let search = self.add_volume(rt, archive, volume, choice, questions)?;
+        search.end_in(rt, archive, Some(volume))
     }
 }

@@ -10,13 +10,15 @@ ghost use Rattle.cli_readings.specs.VolumeReports.{ReportsVolume, reported_of};
 
 use crate::conditions::conditions_over;
 use crate::report::{Reporting, report_of, write_page};
+use crate::volume_reader::VolumeReader;
 use class_plan::{Date, Plan};
 use cli_choice::Questions;
 use cli_console::{Failure, Search};
 use cli_history::Titles;
 use command_lines::archives::{Choice, TypedChoice};
 use record_choice::Repository;
-use record_store::StoreFault;
+use record_store::{Store, StoreFault};
+use sqlite::Alter;
 
 /// A report on the records of several volumes.
 #[derive(Drop)]
@@ -35,7 +37,7 @@ impl<'a> VolumeReport<'a> {
 
     /// Adds the records of a volume that meet a choice, and whose messages have what is asked of them. Answers the search, which is
     /// at its end. `BadData` where the class is none of the plan of the volume.
-    pub fn add_volume<'s, 'c, R: Repository<Fault = StoreFault>>(
+    fn add_volume<'s, 'c, R: Repository<Fault = StoreFault>>(
         &mut self,
         rt: &HostRuntime,
         archive: &mut R,
@@ -75,5 +77,21 @@ impl<'a> VolumeReport<'a> {
             conditions.as_deref(),
             titles,
         )
+    }
+}
+
+impl VolumeReader for VolumeReport<'_> {
+    ghost takes = { λ volume old a es new. ReportsVolume (reported_of volume a.plan es) old new };
+
+    fn read_volume<S: Alter>(
+        &mut self,
+        rt: &HostRuntime,
+        archive: &mut Store<S>,
+        volume: u32,
+        choice: &Choice<'_>,
+        questions: &Questions,
+    ) -> Result<(), Failure> {
+        let search = self.add_volume(rt, archive, volume, choice, questions)?;
+        search.end_in(rt, archive, Some(volume))
     }
 }

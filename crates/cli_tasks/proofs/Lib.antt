@@ -1,5 +1,7 @@
 pub mod DoneLemmas
+pub mod CopyLemmas
 pub mod ChangeLemmas
+pub mod ReadingLaws
 pub mod VolumeLaws
 pub mod DisposalLaws
 pub mod DownLaws
@@ -7,5 +9,6 @@ pub mod BackLaws
 pub mod ReleaseLaws
 pub mod MoveLaws
 pub mod SettingLaws
+pub mod HistoryLaws
 mod PlaceRows
 mod PurposeRows

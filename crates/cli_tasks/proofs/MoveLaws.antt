@@ -4,6 +4,7 @@ use Rattle.std.proofs.lemmas.List.Elements.{All-nil, All-push, All-weaker}
 use Rattle.sqlite.specs.Store.{Ghosts}
 use Rattle.choice_words.specs.declared.typed.TypedChoice.{TypedChoice}
 use Rattle.cli_choice.specs.declared.questions.Questions.{Questions}
+use Rattle.cli_changes.proofs.SeriesLaws.{or_first, or_second}
 use Rattle.cli_changes.specs.Moves.{moves_in_both}
 use Rattle.cli_changes.specs.declared.refile.MoveTally.{MoveTally}
 use Rattle.record_store.specs.declared.store.Store.{Store}
@@ -11,7 +12,6 @@ use Rattle.cli_tasks.specs.Refiles.{MovesEach, MovesIn, MovesListed}
 use Rattle.cli_tasks.specs.declared.volume_changes.Listed.{Listed}
 use Rattle.cli_tasks.specs.declared.volume_refilings.Moved.{Moved}
 use Rattle.cli_tasks.proofs.ReleaseLaws.{volumes_next}
-use Rattle.cli_tasks.proofs.VolumeLaws.{or_first, or_second}
 
 module _ {S : Type 0} (g : Ghosts S) (IsAt : (path : List ℕ) → Store S → Type 0) (folder to : List ℕ) (typed : TypedChoice)
     (questions : Questions) where

@@ -22,6 +22,7 @@ use Rattle.cli_changes.specs.declared.holds.HoldTally.{HoldTally}
 use Rattle.cli_changes.specs.Holdings.{changed_numbers, changed_on, held_by, in_both, is_any_of, none_tried}
 use Rattle.cli_changes.specs.Series.{IsSoOf}
 use Rattle.cli_changes.proofs.ChangeLaws.{ended_held}
+use Rattle.cli_changes.proofs.SeriesLaws.{or_first, or_second}
 use Rattle.cli_tasks.specs.Changes.{ChangesThese, HoldsFound}
 use Rattle.cli_tasks.specs.Commands.{ChangesAsTold, well}
 use Rattle.cli_tasks.specs.Numbers.{IsChoiceTyped}
@@ -31,14 +32,6 @@ use Rattle.cli_tasks.specs.Volumes.{IsHeldIn, ShowsIn}
 use Rattle.cli_tasks.specs.Works.{EachVolume, SomeVolume}
 use Rattle.cli_tasks.proofs.ChangeLemmas.{changes_weaker}
 use Rattle.cli_tasks.proofs.DoneLemmas.{done_weaker}
-
-pub or_first : (x y : Bool) → (x || y) ≡ false → x ≡ false
-or_first true y e = e
-or_first false y e = refl
-
-pub or_second : (x y : Bool) → (x || y) ≡ false → y ≡ false
-or_second true y e = absurd cc
-or_second false y e = e
 
 module _ {S : Type 0} (g : Ghosts S) (IsAt : (path : List ℕ) → Store S → Type 0) (folder : List ℕ) (told : Attribution) (change : Change)
     (name : List ℕ) (questions : Questions) where
@@ -88,7 +81,7 @@ module _ {S : Type 0} (g : Ghosts S) (IsAt : (path : List ℕ) → Store S → T
   all_changed choice t old new none h = record {
     falls = h.falls;
     done = λ clean (a : Archive) s.
-        let d = h.done clean a s in (d.0, record { each_found = d.1.each_found; accepted = d.1.accepted none });
+        let d = h.done clean a s in (d.0, record { each_found = d.1.each_found none; accepted = d.1.accepted none });
     failed = tt;
   }
 

@@ -1,4 +1,5 @@
 pub mod Works
+pub mod Copies
 pub mod Numbers
 pub mod Places
 pub mod Purposes
@@ -9,6 +10,10 @@ pub mod Plans
 pub mod Releases
 pub mod Refiles
 pub mod Disposals
+pub mod Endings
 pub mod Settings
+pub mod Histories
+pub mod Readings
+pub mod Twins
 pub mod Volumes
 pub mod Days

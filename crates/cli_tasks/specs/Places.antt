@@ -62,3 +62,18 @@ is_of_output (Told status text) = is_not_written status
 is_of_output Closed = false
 is_of_output NoMemory = false
 is_of_output (Reported status) = false
+
+abbrev pub is_of_reading : Status → Bool
+is_of_reading Usage = false
+is_of_reading BadData = true
+is_of_reading NoInput = true
+is_of_reading CannotMake = false
+is_of_reading NotWritten = false
+is_of_reading TryAgain = false
+
+-- A FAILURE OF WHAT IS TO BE MADE is not told as one of what is to be read
+abbrev pub IsOfMaking : Failure → Type 0
+IsOfMaking (Told status text) = is_of_reading status ≡ false
+IsOfMaking Closed = Unit {0}
+IsOfMaking NoMemory = Unit {0}
+IsOfMaking (Reported status) = Unit {0}

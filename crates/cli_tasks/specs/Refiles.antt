@@ -13,9 +13,9 @@ use Rattle.record_store.specs.declared.store.Store.{Store}
 use Rattle.record_volumes.specs.Rows.{numbers_to}
 use Rattle.cli_tasks.specs.Changes.{RefilesFound, ShowsMoves}
 use Rattle.cli_tasks.specs.Commands.{AreAsked, ChangesAsTold, well}
+use Rattle.cli_tasks.specs.Endings.{JudgesWhereAny, is_any_in}
 use Rattle.cli_tasks.specs.Numbers.{IsChoiceTyped}
 use Rattle.cli_tasks.specs.Plans.{HaveOnePlan}
-use Rattle.cli_tasks.specs.Releases.{is_any_in}
 use Rattle.cli_tasks.specs.Works.{InVolume}
 use Rattle.cli_tasks.specs.declared.volume_changes.Listed.{Listed}
 use Rattle.cli_tasks.specs.declared.volume_refilings.Moved.{Moved}
@@ -62,7 +62,8 @@ module _ {S : Type 0} (g : Ghosts S) (IsAt : (path : List ℕ) → Store S → T
   RefilesWhereAny to typed questions l = is_any_in l ≡ true → RefilesTyped to typed questions l.volume l.numbers.items
 
   -- THE RECORDS OF A CHOICE GET ANOTHER CLASS, which each volume has by the plan of all: those that were found in each volume, and none of
-  -- them was refused. Each number is typed with its volume, of which there is none after the last.
+  -- them was refused, once the ledgers of these volumes were judged. Each number is typed with its volume, of which there is none after the
+  -- last.
   pub record RefilesOver (to : List ℕ) (typed : TypedChoice) (last : ℕ) : Type 0 where
     pub none : first_alone typed ≡ None
     pub within : first_above last typed ≡ None
@@ -73,4 +74,5 @@ module _ {S : Type 0} (g : Ghosts S) (IsAt : (path : List ℕ) → Store S → T
     pub accepted : tally.is_refused ≡ false
     pub listed : List Listed
     pub shown : MovesEach g IsAt folder to typed questions last tally listed
+    pub judged : All (JudgesWhereAny g IsAt folder told) listed
     pub refiled : All (RefilesWhereAny to typed questions) listed

@@ -1,5 +1,5 @@
 -- The end of a hold on all records of an archive of volumes that have it.
-use Rattle.std.specs.Prelude.{◌≡◌, ◌==◌, ℕ, Bool, true, not, List, All, length, map}
+use Rattle.std.specs.Prelude.{◌≡◌, ℕ, Bool, true, List, All, map}
 use Rattle.std.specs.List.{list_any}
 use Rattle.sqlite.specs.Store.{Ghosts}
 use Rattle.command_lines.specs.declared.archives.histories.Attribution.{Attribution}
@@ -8,12 +8,9 @@ use Rattle.record_store.specs.declared.store.Store.{Store}
 use Rattle.record_volumes.specs.Rows.{numbers_to}
 use Rattle.cli_tasks.specs.Changes.{EndsListed, ListsHeld}
 use Rattle.cli_tasks.specs.Commands.{ChangesAsTold, well}
+use Rattle.cli_tasks.specs.Endings.{JudgesWhereAny, is_any_in}
 use Rattle.cli_tasks.specs.Works.{InVolume}
 use Rattle.cli_tasks.specs.declared.volume_changes.Listed.{Listed}
-
--- records of a volume were listed
-abbrev pub is_any_in : Listed → Bool
-is_any_in l = not (length l.numbers.items == 0)
 
 abbrev pub is_any_listed : List Listed → Bool
 is_any_listed ls = list_any is_any_in ls
@@ -38,9 +35,11 @@ module _ {S : Type 0} (g : Ghosts S) (IsAt : (path : List ℕ) → Store S → T
   abbrev pub EndsWhereAny : (name : List ℕ) → Listed → Type 0
   EndsWhereAny name l = is_any_in l ≡ true → EndsIn name l.volume l.numbers.items
 
-  -- THE HOLD OF A NAME IS ENDED ON EACH RECORD THAT HAS IT, of which there is one at least: those that were listed in each volume
+  -- THE HOLD OF A NAME IS ENDED ON EACH RECORD THAT HAS IT, of which there is one at least: those that were listed in each volume, once the
+  -- ledgers of these were judged
   pub record ReleasesOver (name : List ℕ) (last : ℕ) : Type 0 where
     pub listed : List Listed
     pub shown : ListsEach g IsAt folder name last listed
     pub some : is_any_listed listed ≡ true
+    pub judged : All (JudgesWhereAny g IsAt folder told) listed
     pub ended : All (EndsWhereAny name) listed

@@ -1,12 +1,11 @@
--- Another plan for an archive of volumes, and titles of its classes.
+-- Another plan for an archive of volumes.
 use Rattle.std.specs.Prelude.{ℕ, List}
 use Rattle.class_plan.specs.Plans.{Listing}
 use Rattle.command_lines.specs.declared.archives.histories.Attribution.{Attribution}
 use Rattle.sqlite.specs.Store.{Ghosts}
 use Rattle.record_store.specs.declared.store.Store.{Store}
-use Rattle.cli_tasks.specs.Changes.{JudgesPlan, OpensItsHistory}
+use Rattle.cli_tasks.specs.Changes.{JudgesPlan}
 use Rattle.cli_tasks.specs.Commands.{ChangesAsTold, ChangesBy, ReplacesPlanBy, well}
-use Rattle.cli_tasks.specs.Plans.{HaveOnePlan}
 use Rattle.cli_tasks.specs.Purposes.{for_plan}
 use Rattle.cli_tasks.specs.Works.{EachVolume, InVolume}
 use Rattle.cli_tasks.specs.declared.changes.Changing.{Changing}
@@ -31,12 +30,3 @@ module _ {S : Type 0} (g : Ghosts S) (IsAt : (path : List ℕ) → Store S → T
       pub plan : Listing
       pub judged : EachVolume last (JudgesPlanIn plan)
       pub each : EachVolume last (ReplacesPlanIn plan)
-
-  -- the history of a volume is opened
-  abbrev pub OpensHistoryIn : (volume : ℕ) → Type 0
-  OpensHistoryIn v = InVolume IsAt folder v (OpensItsHistory g)
-
-  -- TITLES ARE GIVEN only where each volume has one plan, and the history of each was opened. Of the titles nothing is said here.
-  pub record GivesTitlesOver (last : ℕ) : Type 0 where
-    pub planned : HaveOnePlan IsAt folder last
-    pub noted : EachVolume last OpensHistoryIn

@@ -15,6 +15,8 @@ use Rattle.command_lines.specs.declared.archives.Command.TheVariants as command
 use Rattle.command_lines.specs.declared.archives.ChosenTask.{ChosenTask}
 use Rattle.command_lines.specs.declared.archives.ChosenTask.TheVariants as task
 use Rattle.command_lines.specs.declared.archives.histories.Attribution.{Attribution}
+use Rattle.command_lines.specs.declared.archives.histories.HistoryTask.{HistoryTask}
+use Rattle.command_lines.specs.declared.archives.histories.HistoryTask.TheVariants as history
 use Rattle.cli_history.specs.declared.opening.Purpose.TheVariants.{Ending}
 use Rattle.record_choice.specs.Entries.{RecordEntry}
 use Rattle.record_ledger.specs.Ledgers.{keeper_of}
@@ -24,12 +26,16 @@ use Rattle.cli_changes.specs.Holdings.{changed_numbers, changed_on, held_by, is_
 use Rattle.cli_changes.specs.Series.{IsSoOf}
 use Rattle.cli_tasks.specs.Changes.{ChangesThese, HoldsFound, ShowsHold}
 use Rattle.cli_tasks.specs.Commands.{AreAsked, ChangesAsTold, Does, well}
+use Rattle.cli_tasks.specs.Copies.{CopiesOver}
 use Rattle.cli_tasks.specs.Numbers.{IsChoiceTyped}
 use Rattle.cli_tasks.specs.Disposals.{DisposesOver}
 use Rattle.cli_tasks.specs.Purposes.{for_hold}
+use Rattle.cli_tasks.specs.Readings.{ExportsOver, ListsToOutput, ReportsOver}
 use Rattle.cli_tasks.specs.Refiles.{RefilesOver}
 use Rattle.cli_tasks.specs.Releases.{ReleasesOver}
-use Rattle.cli_tasks.specs.Settings.{GivesTitlesOver, ReplacesPlanOver}
+use Rattle.cli_tasks.specs.Histories.{AcceptsOver, BeginsOver, GivesTitlesOver, NotesReasonsOver}
+use Rattle.cli_tasks.specs.Settings.{ReplacesPlanOver}
+use Rattle.cli_tasks.specs.Twins.{ListsTwinsToOutput}
 use Rattle.cli_tasks.specs.Works.{EachVolume, InVolume, OverVolumes, SomeVolume}
 
 -- each number that is typed by itself is found, and the archive refuses none of these
@@ -111,16 +117,28 @@ module _ {S : Type 0} (g : Ghosts S) (IsAt : (path : List ℕ) → Store S → T
   DoesWithEach typed last (task.Hold name) = HoldsOver hold.Place name.now typed last
   DoesWithEach typed last (task.Release name) = HoldsOver hold.End name.now typed last
   DoesWithEach typed last (task.Refile refiling) = RefilesOver g IsAt folder told refiling.to.now typed last
-  DoesWithEach typed last t = Unit {0}
+  DoesWithEach typed last (task.List listing) = ListsToOutput g IsAt folder typed listing last
+  DoesWithEach typed last (task.Export target) = ExportsOver g IsAt folder typed target last
+  DoesWithEach typed last (task.Report day) = ReportsOver g IsAt folder typed day last
 
-  -- WHAT A COMMAND LINE MAKES of the volumes in a folder, where it changes records, holds, the plan or titles. Nothing is said here of the
-  -- others.
+  -- what is done with the history of each volume
+  abbrev pub DoesWithHistories : HistoryTask → Type 0
+  DoesWithHistories history.Begin = OverVolumes (BeginsOver g IsAt folder)
+  DoesWithHistories (history.Reasons reasons) = OverVolumes (NotesReasonsOver g IsAt folder)
+  DoesWithHistories history.AcceptFound = OverVolumes (AcceptsOver g IsAt folder told)
+  DoesWithHistories (history.Print typed) = Unit {0}
+
+  -- WHAT A COMMAND LINE MAKES of the volumes in a folder, where it changes records, holds, the plan, titles or histories, copies the volumes,
+  -- or reads the records of a choice, or those that were captured twice. Nothing is said here of the others.
   abbrev pub DoesOver : Command → Type 0
   DoesOver (command.Chosen typed chosen) = OverVolumes (λ last. DoesWithEach typed last chosen)
   DoesOver (command.ReleaseAll name is_agreed) = OverVolumes (ReleasesOver g IsAt folder told name.now)
   DoesOver (command.ReplacePlan path is_agreed) = OverVolumes (ReplacesPlanOver g IsAt folder told)
   DoesOver (command.SetTitles titles) = OverVolumes (GivesTitlesOver g IsAt folder)
+  DoesOver (command.History task) = DoesWithHistories task
+  DoesOver (command.Twice listing) = OverVolumes (ListsTwinsToOutput g IsAt folder listing)
   DoesOver (command.Dispose asked) = OverVolumes (DisposesOver g IsAt folder told asked)
+  DoesOver (command.Copy new is_damaged) = OverVolumes (CopiesOver g IsAt folder new.now)
   DoesOver c = Unit {0}
 
   -- WHAT IT MAKES OF WHAT IS AT ITS PATH: of an archive, or of the volumes of one

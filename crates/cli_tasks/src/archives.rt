@@ -1,10 +1,12 @@
 //! Where archives are kept, and what is done with them there.
 
-ghost use Rattle.std.specs.Prelude.{◌≡◌, ◌≢◌, ℕ, List, Ok, Result, IfOk, OnOk};
+ghost use Rattle.std.specs.Prelude.{◌≡◌, ◌≢◌, ℕ, List, Ok, Result, IfOk, OnOk, false, string_bytes};
 ghost use Rattle.sqlite.specs.Store.{Ghosts};
 ghost use Rattle.sqlite.specs.Held.{Held};
 ghost use Rattle.record_store.specs.declared.store.Store.{Store};
 ghost use Rattle.cli_console.specs.declared.failure.Failure.{Failure};
+ghost use Rattle.cli_tasks.specs.Copies.{draft_at};
+ghost use Rattle.cli_tasks.specs.Places.{IsOfMaking, is_of_reading};
 ghost use Rattle.cli_tasks.specs.Works.{IsDone};
 
 use crate::reports::tell_failure;
@@ -43,6 +45,22 @@ pub trait Work: Drop {
         ensures { does S S.Store self archive result.1 result.0 };
 }
 
+/// What the draft of an archive is filled with, from another database.
+pub trait Filling: Drop {
+    /// What it makes of a draft and of the connection to that database, by what it comes to and the connection of the draft that is left.
+    ghost fills: { (S T : Type 0) → Ghosts S → Ghosts T → Self → (from from_after : Held S)
+        → Store T → Result (Unit {0}) Failure → Held T → Type 0 };
+
+    /// Fills it. The connection of the draft is given back whatever fails.
+    fn fill<S: Alter, T: Alter>(
+        self,
+        rt: &HostRuntime,
+        draft: Store<T>,
+        from: &mut Connection<S>,
+    ) -> (Connection<T>, Result<(), Failure>)
+        ensures { fills S T S.Store T.Store self from.old from.new draft result.1 result.0 };
+}
+
 /// Where archives are kept, each at a path. Programs have files there; what is done with an archive knows nothing of them,
 /// and is proved beside them.
 pub trait Archives: Drop {
@@ -64,9 +82,22 @@ pub trait Archives: Drop {
         ensures { IfOk result (λ x. IsDone (is_at self.now path.now)
             (λ before after. W.does Self.Kept Self.Kept.Store work before x.0 after)) };
 
+    /// Opens the draft of an archive, has it filled from the database of a connection, and closes it. Answers as `lend` does.
+    fn lend_to_fill<F: Filling, S: Alter>(
+        &self,
+        rt: &HostRuntime,
+        draft: &str,
+        filling: F,
+        from: &mut Connection<S>,
+    ) -> Result<(Result<(), Failure>, Closed), Failure>
+        ensures { IfOk result (λ x. IsDone (is_at self.now draft.now)
+            (λ before after. F.fills S Self.Kept S.Store Self.Kept.Store filling from.old from.new
+            before x.0 after)) };
+
     /// Makes an archive with a plan that is to have its place at a path where nothing is. Answers the path of a draft, at
-    /// which it is until then. Where that fails, nothing is left there.
-    fn create(&self, rt: &HostRuntime, path: &str, plan: Plan) -> Result<String, Failure>;
+    /// which it is until then, beside that path. Where that fails, nothing is left there.
+    fn create(&self, rt: &HostRuntime, path: &str, plan: Plan) -> Result<String, Failure>
+        ensures { IfOk result (λ draft. string_bytes draft ≡ draft_at path.now) };
 
     /// Gives a draft that is whole its place at a path. Nothing there is replaced.
     fn give_place(&self, rt: &HostRuntime, draft: &str, path: &str) -> Result<(), Failure>;
@@ -75,13 +106,30 @@ pub trait Archives: Drop {
     fn remove(&self, rt: &HostRuntime, draft: &str);
 }
 
+/// The same status, but `CannotMake` where what is to be made is not there or is none.
+fn status_of_making(status: Status) -> Status
+    ensures made { is_of_reading result ≡ false }
+    ensures same { is_of_reading status ≡ false → result ≡ status }
+{
+    match status {
+        Status::NoInput | Status::BadData => Status::CannotMake,
+        Status::Usage => Status::Usage,
+        Status::CannotMake => Status::CannotMake,
+        Status::NotWritten => Status::NotWritten,
+        Status::TryAgain => Status::TryAgain,
+    }
+}
+
 /// The same failure with `CannotMake` where the new archive is not there or is none.
-pub fn not_made(failure: Failure) -> Failure {
+pub fn not_made(failure: Failure) -> Failure
+    ensures made { IsOfMaking result }
+    ensures same { IsOfMaking failure → result ≡ failure }
+{
     match failure {
-        Failure::Told(Status::NoInput | Status::BadData, text) => {
-            Failure::Told(Status::CannotMake, text)
-        }
-        other => other,
+        Failure::Told(status, text) => Failure::Told(status_of_making(status), text),
+        Failure::Closed => Failure::Closed,
+        Failure::NoMemory => Failure::NoMemory,
+        Failure::Reported(status) => Failure::Reported(status),
     }
 }
 

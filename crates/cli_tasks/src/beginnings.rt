@@ -44,7 +44,7 @@ impl Work for BeginHistory<'_> {
 }
 
 /// With how many events a history began.
-fn begun_line(alloc: Global, count: u64) -> Result<Shown, AllocError> {
+pub fn begun_line(alloc: Global, count: u64) -> Result<Shown, AllocError> {
     let mut line = Shown::new(alloc);
     put!(line; "history begun events " value(&count))?;
     line.end_line()?;
@@ -65,9 +65,9 @@ pub fn begin<A: Archives>(
 
 /// Notes in the history of an archive whether reasons are required. Answers the number of the event; none where it is so already.
 #[derive(Drop)]
-struct NoteReasons<'a> {
-    author: Author<'a>,
-    reasons: Reasons,
+pub struct NoteReasons<'a> {
+    pub author: Author<'a>,
+    pub reasons: Reasons,
 }
 
 impl Work for NoteReasons<'_> {
@@ -89,7 +89,11 @@ impl Work for NoteReasons<'_> {
 }
 
 /// From which event on reasons are required, or are not; or that it is so already.
-fn reasons_line(alloc: Global, reasons: Reasons, number: Option<u32>) -> Result<Shown, AllocError> {
+pub fn reasons_line(
+    alloc: Global,
+    reasons: Reasons,
+    number: Option<u32>,
+) -> Result<Shown, AllocError> {
     let mut line = Shown::new(alloc);
     line.words(match reasons {
         Reasons::Required => "reasons required",
@@ -139,7 +143,7 @@ impl Work for AcceptFound<'_> {
 }
 
 /// In which event findings are accepted.
-fn accepted_line(alloc: Global, number: u32) -> Result<Shown, AllocError> {
+pub fn accepted_line(alloc: Global, number: u32) -> Result<Shown, AllocError> {
     let mut line = Shown::new(alloc);
     put!(line; "findings accepted event " value(&number))?;
     line.end_line()?;

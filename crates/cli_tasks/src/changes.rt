@@ -149,10 +149,17 @@ fn dispose_due<S: Alter>(
     ensures { Disposes S.Store ledger.old ledger.new (is_ok result) asked.now day seals.now }
 {
     let mut certificates = Certificates::on_output(rt, None, seals);
-    let is_any = dispose_by(rt, ledger, &mut certificates, asked, day)?;
-    let tally = certificates.tally(is_any);
-    tally.tell_gone(rt);
-    tally.tell_none(rt, !asked.numbers.is_empty(), day)
+    match dispose_by(rt, ledger, &mut certificates, asked, day) {
+        Ok(is_any) => {
+            let tally = certificates.tally(is_any);
+            tally.tell_gone(rt, None);
+            tally.tell_none(rt, !asked.numbers.is_empty(), day)
+        }
+        Err(failure) => {
+            certificates.tally(false).tell_gone(rt, None);
+            Err(failure)
+        }
+    }
 }
 
 /// Changes the records of a choice.

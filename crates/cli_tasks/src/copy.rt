@@ -1,9 +1,13 @@
 //! `copy`: a new archive with all that another one has.
 
-use crate::archives::{Archives, Work, lend, not_made};
+ghost use Rattle.std.specs.Prelude.{◌≡◌, IfOk, Ok, OnOk};
+ghost use Rattle.cli_tasks.specs.Copies.{CopiesTo, FillsWith, draft_at};
+ghost use Rattle.cli_tasks.specs.Works.{IsDone};
+
+use crate::archives::{Archives, Filling, Work, lend, not_made};
 use crate::drafts::{begin, read_back, settle};
 use class_plan::Plan;
-use cli_console::{Failure, Status, tell, tell_words, write_text};
+use cli_console::{Failure, Status, tell_in, tell_words_in, write_text};
 use cli_history::{Author, Lines, Seals, Whole, open_history};
 use cli_readings::{Judged, Summary, judged_summary};
 use command_lines::archives::Attribution;
@@ -11,7 +15,7 @@ use record_copy::{CopyFault, copy_archive};
 use record_noted::Opened;
 use record_store::Store;
 use sqlite::{Alter, Connection};
-use std::alloc::Global;
+use std::alloc::{AllocError, Global};
 use tool_texts::{Shown, put};
 
 /// The paths of a copy.
@@ -54,11 +58,22 @@ fn copy_failure(alloc: Global, paths: Paths<'_>, fault: CopyFault) -> Failure {
 
 /// What is done where messages are not the ones that were captured, and where the history is not whole.
 #[derive(Clone, Copy)]
-enum Damage {
+pub enum Damage {
     /// Nothing is copied.
     Refused,
     /// Messages are copied as they are, and the history as far as it is whole.
     Copied,
+}
+
+impl Damage {
+    /// What is done as it is typed.
+    pub fn of(is_damaged: bool) -> Damage {
+        if is_damaged {
+            Damage::Copied
+        } else {
+            Damage::Refused
+        }
+    }
 }
 
 /// A history that is copied.
@@ -83,11 +98,12 @@ struct Kept {
 fn lines_of<S: Alter>(
     rt: &HostRuntime,
     archive: Store<S>,
+    volume: Option<u32>,
 ) -> (Store<S>, Result<Option<History>, Failure>) {
     match open_history(rt, archive) {
         Ok(Opened::Noted(noted)) => {
             let mut noted = noted;
-            match Lines::of(rt, &mut noted) {
+            match Lines::of(rt, &mut noted, volume) {
                 Ok(lines) => (noted.into_store(), Ok(Some(History::Lines(lines)))),
                 Err(failure) => (noted.into_store(), Err(failure)),
             }
@@ -107,14 +123,16 @@ const NOBODY: Attribution<'static> = Attribution {
 fn whole_of<S: Alter>(
     rt: &HostRuntime,
     archive: &mut Store<S>,
+    volume: Option<u32>,
 ) -> Result<Option<History>, Failure> {
     let Some(whole) = Whole::of(rt, archive)? else {
         return Ok(None);
     };
     if let Some(fault) = whole.fault() {
-        tell(rt, fault);
-        tell_words(
+        tell_in(rt, volume, fault);
+        tell_words_in(
             rt,
+            volume,
             "the copy gets the history before that event, and what is there is noted behind it as found; look at it, and accept it by history --accept-found",
         );
     }
@@ -128,12 +146,13 @@ fn history_of<S: Alter>(
     rt: &HostRuntime,
     archive: Store<S>,
     damage: Damage,
+    volume: Option<u32>,
 ) -> (Store<S>, Result<Option<History>, Failure>) {
     match damage {
-        Damage::Refused => lines_of(rt, archive),
+        Damage::Refused => lines_of(rt, archive, volume),
         Damage::Copied => {
             let mut archive = archive;
-            let whole = whole_of(rt, &mut archive);
+            let whole = whole_of(rt, &mut archive, volume);
             (archive, whole)
         }
     }
@@ -145,6 +164,7 @@ fn judged_by_seals<S: Alter>(
     rt: &HostRuntime,
     archive: &mut Store<S>,
     damage: Damage,
+    volume: Option<u32>,
 ) -> Result<Summary, Failure> {
     let seals = Seals::of(rt, archive)?;
     let Judged {
@@ -152,7 +172,7 @@ fn judged_by_seals<S: Alter>(
         altered,
         ..
     } = judged_summary(rt, archive, &seals)?;
-    altered.tell(rt)?;
+    altered.tell_in(rt, volume)?;
     match damage {
         Damage::Refused if !altered.is_empty() => Err(Failure::told(
             rt.alloc(),
@@ -169,8 +189,11 @@ fn kept_of<S: Alter>(
     archive: &mut Store<S>,
     history: Option<History>,
     damage: Damage,
-) -> Result<Kept, Failure> {
-    let summary = judged_by_seals(rt, archive, damage)?;
+    volume: Option<u32>,
+) -> Result<Kept, Failure>
+    ensures { IfOk result (λ kept. kept.plan ≡ archive.new.plan) }
+{
+    let summary = judged_by_seals(rt, archive, damage, volume)?;
     let plan = archive.plan().copy()?;
     Ok(Kept {
         plan,
@@ -184,11 +207,19 @@ fn read_all<S: Alter>(
     rt: &HostRuntime,
     archive: Store<S>,
     damage: Damage,
-) -> (Store<S>, Result<Kept, Failure>) {
-    let (archive, history) = history_of(rt, archive, damage);
+    volume: Option<u32>,
+) -> (Store<S>, Result<Kept, Failure>)
+    ensures { IfOk result.1 (λ kept. kept.plan ≡ result.0.plan) }
+{
+    let (archive, history) = history_of(rt, archive, damage, volume);
     let mut archive = archive;
-    let kept = history.and_then(|history| kept_of(rt, &mut archive, history, damage));
-    (archive, kept)
+    match history {
+        Ok(history) => {
+            let kept = kept_of(rt, &mut archive, history, damage, volume);
+            (archive, kept)
+        }
+        Err(failure) => (archive, Err(failure)),
+    }
 }
 
 /// Begins the history of a draft with that of another archive.
@@ -234,30 +265,31 @@ fn take_over<T: Alter>(
     }
 }
 
-/// Fills the draft of an archive with what the database of a connection has.
+/// Fills the draft of an archive with what another database has, and with a history.
 #[derive(Drop)]
-struct FillDraft<'f, S: Alter> {
+struct FillDraft<'f> {
+    /// The plan of the archive in that database.
     plan: &'f Plan,
-    from: &'f mut Connection<S>,
     history: Option<&'f History>,
     paths: Paths<'f>,
 }
 
-impl<S: Alter> Work for FillDraft<'_, S> {
-    type Answer = ();
+impl Filling for FillDraft<'_> {
+    ghost fills = { λ S T g h it from from_after draft done left. OnOk done
+        (FillsWith g h it.plan.now from from_after draft left) };
 
-    fn work<T: Alter>(
+    fn fill<S: Alter, T: Alter>(
         self,
         rt: &HostRuntime,
-        archive: Store<T>,
+        draft: Store<T>,
+        from: &mut Connection<S>,
     ) -> (Connection<T>, Result<(), Failure>) {
         let FillDraft {
             plan,
-            from,
             history,
             paths,
         } = self;
-        let mut to = archive.into_connection();
+        let mut to = draft.into_connection();
         match copy_archive(rt.alloc(), plan, from, &mut to) {
             Ok(()) => take_over(rt, to, history, paths.new),
             Err(fault) => (to, Err(copy_failure(rt.alloc(), paths, fault))),
@@ -270,15 +302,22 @@ fn fill<A: Archives, S: Alter>(
     rt: &HostRuntime,
     archives: &A,
     draft: &str,
-    work: FillDraft<'_, S>,
-) -> Result<(), Failure> {
-    match archives.lend(rt, draft, work) {
-        Ok((filled, _)) => filled,
+    filling: FillDraft<'_>,
+    from: &mut Connection<S>,
+) -> Result<(), Failure>
+    ensures { OnOk result (IsDone (A.is_at archives.now draft.now)
+        (FillsWith S.Store A.Kept.Store filling.entry.plan.now from.old from.new)) }
+{
+    match archives.lend_to_fill(rt, draft, filling, from) {
+        Ok(lent) => {
+            let (filled, _closed) = lent;
+            filled
+        }
         Err(failure) => Err(not_made(failure)),
     }
 }
 
-/// Copies an archive that was read to a draft, and answers what was copied.
+/// Copies an archive that was read to a draft.
 fn copy_all<A: Archives, S: Alter>(
     rt: &HostRuntime,
     archives: &A,
@@ -286,24 +325,30 @@ fn copy_all<A: Archives, S: Alter>(
     kept: &Kept,
     draft: &str,
     paths: Paths<'_>,
-) -> Result<Summary, Failure> {
-    let work = FillDraft {
+) -> Result<(), Failure>
+    ensures { OnOk result (IsDone (A.is_at archives.now draft.now)
+        (FillsWith S.Store A.Kept.Store kept.now.plan from.old from.new)) }
+{
+    let filling = FillDraft {
         plan: &kept.plan,
-        from,
         history: kept.history.as_ref(),
         paths,
     };
-    fill(rt, archives, draft, work)?;
-    Ok(kept.summary)
+    fill(rt, archives, draft, filling, from)
 }
 
-/// Reads the draft of an archive back, and compares it with what was copied.
+/// Reads the draft of an archive back once it is filled, and compares it with what was copied.
 fn compare<A: Archives>(
     rt: &HostRuntime,
     archives: &A,
+    filled: Result<(), Failure>,
     kept: &Summary,
     draft: &str,
-) -> Result<Summary, Failure> {
+) -> Result<Summary, Failure>
+    ensures filled { OnOk result (filled ≡ Ok tt) }
+    ensures same { IfOk result (λ copied. copied.sum ≡ kept.now.sum) }
+{
+    filled?;
     let copied = read_back(rt, archives, draft)?;
     if copied.sum.as_slice() != kept.sum.as_slice() {
         return Err(Failure::at(
@@ -316,62 +361,87 @@ fn compare<A: Archives>(
     Ok(copied)
 }
 
-/// Gives the draft of an archive its place if it has what was copied, and reports how much that is. Otherwise none is left.
+/// Gives the draft of an archive its place if it has what was copied, and answers how much that is. Otherwise none is left.
 fn finish<A: Archives>(
     rt: &HostRuntime,
     archives: &A,
-    copied: Result<Summary, Failure>,
+    filled: Result<(), Failure>,
+    kept: &Summary,
     draft: &str,
     new: &str,
-) -> Result<(), Failure> {
-    let found = copied.and_then(|kept| compare(rt, archives, &kept, draft));
-    let copied = settle(rt, archives, draft, new, found)?;
-    let mut text = Shown::new(rt.alloc());
-    put!(text; "copied records " value(&copied.records) " messages " value(&copied.messages)
-        " octets " value(&copied.octets))?;
-    text.end_line()?;
-    write_text(rt, &text)
+) -> Result<Summary, Failure>
+    ensures filled { OnOk result (filled ≡ Ok tt) }
+    ensures same { IfOk result (λ copied. copied.sum ≡ kept.now.sum) }
+{
+    let found = compare(rt, archives, filled, kept, draft);
+    settle(rt, archives, draft, new, found)
 }
 
-/// Makes a new archive with what was read of another one. Where that fails, no new one is left.
+/// Makes a new archive with what was read of another one, and answers how much that is. Where that fails, no new one is left.
 fn make_copy<A: Archives, S: Alter>(
     rt: &HostRuntime,
     archives: &A,
     from: &mut Connection<S>,
     kept: &Kept,
     paths: Paths<'_>,
-) -> Result<(), Failure> {
+) -> Result<Summary, Failure>
+    ensures { OnOk result (IsDone (A.is_at archives.now (draft_at paths.entry.new.now))
+        (FillsWith S.Store A.Kept.Store kept.now.plan from.old from.new)) }
+{
     let draft = begin(rt, archives, paths.new, kept.plan.copy()?)?;
-    let copied = copy_all(rt, archives, from, kept, draft.as_str(), paths);
-    finish(rt, archives, copied, draft.as_str(), paths.new)
+    let place = draft.as_str();
+    let filled = copy_all(rt, archives, from, kept, place, paths);
+    finish(rt, archives, filled, &kept.summary, place, paths.new)
 }
 
-/// Makes a new archive with all that another one has. Where that fails, no new one is left.
+/// Makes a new archive with all that another one has, and answers how much that is. Where that fails, no new one is left. `BadData`
+/// where a message is not the one that was captured, and where the history is not whole, unless damage is to be copied. What is damaged
+/// is told.
 #[derive(Clone, Copy)]
-struct Copying<'a, A> {
-    archives: &'a A,
-    paths: Paths<'a>,
-    damage: Damage,
+pub struct Copying<'a, 'p, A> {
+    pub archives: &'a A,
+    pub paths: Paths<'p>,
+    pub damage: Damage,
+    /// The number of the volume that is copied, in an archive of volumes.
+    pub volume: Option<u32>,
 }
 
-impl<A: Archives> Work for Copying<'_, A> {
-    type Answer = ();
+impl<A: Archives> Work for Copying<'_, '_, A> {
+    type Answer = Summary;
+
+    ghost does = { λ S g it before done after. OnOk done (CopiesTo g A.Kept.Store
+        (A.is_at it.archives.now) it.paths.new.now before after) };
 
     fn work<S: Alter>(
         self,
         rt: &HostRuntime,
         archive: Store<S>,
-    ) -> (Connection<S>, Result<(), Failure>) {
+    ) -> (Connection<S>, Result<Summary, Failure>) {
         let Copying {
             archives,
             paths,
             damage,
+            volume,
         } = self;
-        let (archive, read) = read_all(rt, archive, damage);
+        let (archive, read) = read_all(rt, archive, damage, volume);
         let mut from = archive.into_connection();
-        let made = read.and_then(|kept| make_copy(rt, archives, &mut from, &kept, paths));
-        (from, made)
+        match read {
+            Ok(kept) => {
+                let made = make_copy(rt, archives, &mut from, &kept, paths);
+                (from, made)
+            }
+            Err(failure) => (from, Err(failure)),
+        }
     }
+}
+
+/// How much of an archive was copied.
+fn copied_line(alloc: Global, copied: &Summary) -> Result<Shown, AllocError> {
+    let mut line = Shown::new(alloc);
+    put!(line; "copied records " value(&copied.records) " messages " value(&copied.messages)
+        " octets " value(&copied.octets))?;
+    line.end_line()?;
+    Ok(line)
 }
 
 /// Makes a new archive with all that another one has. Where that fails, no new one is left. `BadData` where a message is not
@@ -382,16 +452,16 @@ pub fn copy_to<A: Archives>(
     archives: &A,
     paths: Paths<'_>,
     is_damaged: bool,
-) -> Result<(), Failure> {
-    let damage = if is_damaged {
-        Damage::Copied
-    } else {
-        Damage::Refused
-    };
+) -> Result<(), Failure>
+    ensures { OnOk result (IsDone (A.is_at archives.now paths.entry.store.now)
+        (CopiesTo A.Kept.Store A.Kept.Store (A.is_at archives.now) paths.entry.new.now)) }
+{
     let work = Copying {
         archives,
         paths,
-        damage,
+        damage: Damage::of(is_damaged),
+        volume: None,
     };
-    lend(rt, archives, paths.store, work)
+    let copied = lend(rt, archives, paths.store, work)?;
+    write_text(rt, &copied_line(rt.alloc(), &copied)?)
 }

@@ -1,5 +1,8 @@
 //! New archives, which get their places once they are found whole.
 
+ghost use Rattle.std.specs.Prelude.{◌≡◌, IfOk, Ok, string_bytes};
+ghost use Rattle.cli_tasks.specs.Copies.{draft_at};
+
 use crate::archives::{Archives, Closed, Work, not_made};
 use crate::beginnings::BeginHistory;
 use class_plan::Plan;
@@ -16,8 +19,11 @@ pub fn begin<A: Archives>(
     archives: &A,
     path: &str,
     plan: Plan,
-) -> Result<String, Failure> {
-    archives.create(rt, path, plan).map_err(not_made)
+) -> Result<String, Failure>
+    ensures { IfOk result (λ draft. string_bytes draft ≡ draft_at path.now) }
+{
+    let draft = archives.create(rt, path, plan).map_err(not_made)?;
+    Ok(draft)
 }
 
 /// Sums up an archive.
@@ -51,18 +57,32 @@ pub fn read_back<A: Archives>(
     }
 }
 
-/// Gives a draft that was found whole its place at a path. Where it was not, or has none there, it is removed.
+/// Gives a draft that was found whole its place at a path, and answers what was found of it.
+fn place<A: Archives, T: Drop>(
+    rt: &HostRuntime,
+    archives: &A,
+    draft: &str,
+    path: &str,
+    found: Result<T, Failure>,
+) -> Result<T, Failure>
+    ensures { IfOk result (λ x. found ≡ Ok x) }
+{
+    let found = found?;
+    archives.give_place(rt, draft, path).map_err(not_made)?;
+    Ok(found)
+}
+
+/// The same. Where it was not found whole, or has no place there, it is removed.
 pub fn settle<A: Archives, T: Drop>(
     rt: &HostRuntime,
     archives: &A,
     draft: &str,
     path: &str,
     found: Result<T, Failure>,
-) -> Result<T, Failure> {
-    let settled = found.and_then(|found| {
-        archives.give_place(rt, draft, path).map_err(not_made)?;
-        Ok(found)
-    });
+) -> Result<T, Failure>
+    ensures { IfOk result (λ x. found ≡ Ok x) }
+{
+    let settled = place(rt, archives, draft, path, found);
     if settled.is_err() {
         archives.remove(rt, draft);
     }

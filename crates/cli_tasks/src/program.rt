@@ -4,7 +4,7 @@ use crate::archives::Archives;
 use crate::reports::{end_with, end_without_command};
 use crate::subcommands::execute;
 use command_lines::archives::read_command_line;
-use command_lines::words_of_process;
+use command_lines::{fill_streams, words_of_process};
 use std::process::ExitCode;
 
 /// Executes the words of the command line.
@@ -20,6 +20,7 @@ fn serve_words<A: Archives>(rt: &HostRuntime, archives: &A, words: &[String]) ->
 
 /// Reads the command line and executes it, over archives that are kept there.
 pub fn serve<A: Archives>(rt: &HostRuntime, archives: &A) -> ExitCode {
+    let _ = fill_streams(rt);
     match words_of_process(rt) {
         Ok(words) => serve_words(rt, archives, words.as_slice()),
         Err(none) => end_without_command(rt, none),

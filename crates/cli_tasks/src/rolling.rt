@@ -1,11 +1,12 @@
 //! Archives of volumes that begin, and volumes that do.
 
-ghost use Rattle.std.specs.Prelude.{Some, IfOk};
-ghost use Rattle.cli_tasks.specs.Places.{IsForImport, IsIn, IsPlaceAsItIs, IsPlaceIn};
+ghost use Rattle.std.specs.Prelude.{Some, IfErr, IfOk};
+ghost use Rattle.cli_tasks.specs.Places.{IsForImport, IsIn, IsOfMaking, IsPlaceAsItIs, IsPlaceIn};
 
 use crate::archives::{Archives, Work, lend, not_made};
 use crate::drafts::{begin, begin_history, read_back};
 use crate::volume_days::Earlier;
+use crate::volume_row::named_in;
 use class_plan::Plan;
 use cli_changes::{Intake, Place, Space, Timing, moment_in};
 use cli_console::{Failure, Status};
@@ -30,11 +31,13 @@ pub fn no_volumes(rt: &HostRuntime, folder: &str, cause: NoVolumes) -> Failure {
         NoVolumes::NoArchive
         | NoVolumes::Unfinished
         | NoVolumes::Missing(_)
+        | NoVolumes::LeftLog(_)
+        | NoVolumes::Link
         | NoVolumes::System(_)
         | NoVolumes::File(..) => Status::NoInput,
         NoVolumes::Damaged => Status::BadData,
-        NoVolumes::There => Status::CannotMake,
-        NoVolumes::Busy => Status::TryAgain,
+        NoVolumes::There | NoVolumes::Left | NoVolumes::Elsewhere => Status::CannotMake,
+        NoVolumes::Busy | NoVolumes::Changed | NoVolumes::Unsettled => Status::TryAgain,
         NoVolumes::NoMemory => return Failure::NoMemory,
     };
     Failure::at(rt.alloc(), status, folder, &cause)
@@ -112,10 +115,11 @@ fn ending_of<S: Alter>(
     }
 }
 
-/// What is taken over from a store whose history ends so, if it has one. `TryAgain` where the clock is wrong, by its days too, or by
+/// What is taken over from a volume whose history ends so, if it has one. `TryAgain` where the clock is wrong, by its days too, or by
 /// those of an earlier volume where it has no record.
 fn inherited_from<S: Alter, A: Archives>(
     rt: &HostRuntime,
+    volume: u32,
     archive: &mut Store<S>,
     ending: Option<Ending>,
     earlier: &Earlier<'_, A>,
@@ -128,7 +132,7 @@ fn inherited_from<S: Alter, A: Archives>(
         history: match ending {
             Some(ending) => Some(InheritedHistory {
                 ending,
-                titles: Titles::of(rt, archive)?,
+                titles: named_in(rt, Titles::of(rt, archive), volume)?,
             }),
             None => None,
         },
@@ -136,9 +140,10 @@ fn inherited_from<S: Alter, A: Archives>(
 }
 
 /// Reads what the next volume takes over from the last one, where a message may be captured now. In the next volume there is no
-/// record yet by whose day the clock could be judged.
+/// record yet by whose day the clock could be judged. What is bad in the history of the last one is told with its number.
 #[derive(Drop)]
 struct ReadLast<'e, A> {
+    volume: u32,
     timing: Timing,
     earlier: Earlier<'e, A>,
 }
@@ -151,11 +156,16 @@ impl<A: Archives> Work for ReadLast<'_, A> {
         rt: &HostRuntime,
         archive: Store<S>,
     ) -> (Connection<S>, Result<Inherited, Failure>) {
-        let ReadLast { timing, earlier } = self;
+        let ReadLast {
+            volume,
+            timing,
+            earlier,
+        } = self;
         let (archive, ending) = ending_of(rt, archive);
         let mut archive = archive;
-        let read = ending.and_then(|ending| inherited_from(
+        let read = named_in(rt, ending, volume).and_then(|ending| inherited_from(
             rt,
+            volume,
             &mut archive,
             ending,
             &earlier,
@@ -282,7 +292,7 @@ impl Work for ReadHistory {
         match open_history(rt, archive) {
             Ok(Opened::Noted(noted)) => {
                 let mut noted = noted;
-                let read = Lines::of(rt, &mut noted).map(|_| ());
+                let read = Lines::of(rt, &mut noted, None).map(|_| ());
                 (noted.into_store().into_connection(), read)
             }
             Ok(Opened::Plain(archive)) => (archive.into_connection(), Ok(())),
@@ -343,9 +353,8 @@ fn settle_folder(rt: &HostRuntime, folder: &str, made: Result<(), Failure>) -> R
     note_begun(rt, folder, 1).map_err(|cause| no_volumes(rt, folder, cause))
 }
 
-/// Makes an archive of volumes of a size, in octets, with a plan, in a folder at a path where nothing is: else `CannotMake`. Where it
-/// fails, the folder is removed.
-pub fn create_volumes<A: Archives>(
+/// Begins a folder for volumes of a size, in octets, with its first one. Where that fails, the folder is removed.
+fn begin_folder<A: Archives>(
     rt: &HostRuntime,
     archives: &A,
     folder: &str,
@@ -357,6 +366,24 @@ pub fn create_volumes<A: Archives>(
     let _lock = lock_folder(rt, folder).map_err(|cause| no_volumes(rt, folder, cause))?;
     let made = make_volume(rt, archives, folder, 1, plan, None, author);
     settle_folder(rt, folder, made)
+}
+
+/// Makes an archive of volumes of a size, in octets, with a plan, in a folder at a path where nothing is. `CannotMake` where something is,
+/// or where the folder cannot be made. Where it fails, the folder is removed.
+pub fn create_volumes<A: Archives>(
+    rt: &HostRuntime,
+    archives: &A,
+    folder: &str,
+    size: u64,
+    plan: Plan,
+    author: Author<'_>,
+) -> Result<(), Failure>
+    ensures { IfErr result IsOfMaking }
+{
+    match begin_folder(rt, archives, folder, size, plan, author) {
+        Ok(()) => Ok(()),
+        Err(failure) => Err(not_made(failure)),
+    }
 }
 
 /// A folder with an archive of volumes, to which a next volume may be added.
@@ -413,6 +440,7 @@ impl<A: Archives> VolumeFolder for Folder<'_, A> {
         let rt = self.rt;
         let last = volume.saturating_sub(1);
         let work = ReadLast {
+            volume: last,
             timing: self.timing,
             earlier: Earlier::of(self.archives, self.path, Some(last)),
         };

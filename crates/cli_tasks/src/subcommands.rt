@@ -5,6 +5,7 @@ ghost use Rattle.cli_tasks.specs.Commands.{ChangesBy, ChangesChosenBy, DisposesA
 ghost use Rattle.cli_tasks.specs.Volumes.{DoesThere};
 ghost use Rattle.cli_tasks.specs.Works.{IsDone};
 
+use crate::adopting::adopt;
 use crate::archives::{Archives, Work, lend, settled};
 use crate::beginnings::{accept_found, begin, require_reasons};
 use crate::changes::{ChangeBy, Changing, ChosenChange, DeliverOne, TakeNew, author_of_disposal};
@@ -511,6 +512,7 @@ fn execute_at<'a, A: Archives>(
 {
     match command {
         Command::Create { plan, size } => create(rt, archives, store, plan, size, told),
+        Command::Adopt { file, size } => adopt(rt, archives, file, store, size),
         Command::WritePlan => lend(rt, archives, store, WritePlan),
         Command::ReplacePlan { plan, is_agreed } => {
             replace_plan(rt, archives, store, plan, is_agreed, told)

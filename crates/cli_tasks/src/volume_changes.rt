@@ -4,6 +4,7 @@ ghost use Rattle.std.specs.Prelude.{◌≡◌, All, true, false, IfOk, None, OnO
 ghost use Rattle.choice_words.specs.Readings.{reads_as_any_numbers};
 ghost use Rattle.cli_history.specs.declared.opening.Purpose.TheVariants.{Ending};
 ghost use Rattle.cli_tasks.specs.Changes.{EndsListed, HoldsFound, ListsHeld, ShowsHold};
+ghost use Rattle.cli_tasks.specs.Endings.{JudgesWhereAny};
 ghost use Rattle.cli_tasks.specs.Purposes.{for_hold};
 ghost use Rattle.cli_tasks.specs.Releases.{EndsIn, EndsWhereAny, ListsEach, ReleasesOver, is_any_listed};
 ghost use Rattle.cli_tasks.specs.Volumes.{HoldsIn, HoldsInEach, HoldsOver, HoldsTyped, ShowsIn};
@@ -11,6 +12,7 @@ ghost use Rattle.cli_tasks.specs.Works.{SomeVolume};
 
 use crate::archives::{Archives, Work};
 use crate::changes::{ChangeBy, LedgerWork, purpose_of_hold};
+use crate::volume_endings::judge_endings;
 use crate::volume_numbers::{judge_hold_name, judge_numbers};
 use crate::volume_row::{Volumes, author_in};
 use choice_words::TypedChoice;
@@ -201,9 +203,9 @@ fn judge_name(rt: &HostRuntime, change: Change, name: &str) -> Result<(), Failur
 }
 
 /// Places or ends the hold of a name on the records of a choice, volume by volume, each in its own ledger. It fails as in a single store,
-/// at the first volume that does, and those before it are done. What is told once is told of all volumes. `Usage` where a number is typed
-/// without its volume, or where numbers of records stand in the place of the name of a hold that is to be placed, and `BadData` where
-/// there is no such volume.
+/// at the first volume that does, and those before it are done; where a record is refused, or is not found, the others are done all the
+/// same. What is told once is told of all volumes. `Usage` where a number is typed without its volume, or where numbers of records stand in
+/// the place of the name of a hold that is to be placed, and `BadData` where there is no such volume.
 pub fn change_holds<A: Archives>(
     rt: &HostRuntime,
     archives: &A,
@@ -352,7 +354,7 @@ fn release_any_in<A: Archives>(
     release_in(rt, archives, volumes, listed.volume, name, numbers, told)
 }
 
-/// Ends the hold of a name on the records that were listed, volume by volume.
+/// Ends the hold of a name on the records that were listed, volume by volume, once their ledgers were judged.
 fn release_each<A: Archives>(
     rt: &HostRuntime,
     archives: &A,
@@ -361,6 +363,8 @@ fn release_each<A: Archives>(
     listed: &[Listed],
     told: &Attribution<'_>,
 ) -> Result<(), Failure>
+    requires { All (JudgesWhereAny A.Kept.Store (A.is_at archives.now) volumes.folder.now
+        told.now) listed.now }
     ensures { OnOk result (All (EndsWhereAny A.Kept.Store (A.is_at archives.now)
         volumes.entry.folder.now told.now name.now) listed.now) }
 {
@@ -378,8 +382,9 @@ fn is_any(listed: &[Listed]) -> bool
 }
 
 /// Ends the hold of a name on each live record of all volumes that has it, once these were listed, and someone agrees. `BadData` where no
-/// record has it, and `Usage` where nobody agrees: then nothing is done. Else it fails as in a single store, at the first volume that does;
-/// also with `TryAgain` where a volume has other records with the hold by then.
+/// record has it, and `Usage` where nobody agrees; and, where the ledger of one of their volumes cannot be opened for this, as in a single
+/// store: then nothing is done. Another program may change a volume after that; where it fails then, those before it are done. `TryAgain`
+/// where a volume has other records with the hold by then.
 pub fn release_all<A: Archives>(
     rt: &HostRuntime,
     archives: &A,
@@ -393,6 +398,7 @@ pub fn release_all<A: Archives>(
 {
     let listed = list_in_each(rt, archives, volumes, name)?;
     let listed = listed.as_slice();
+    judge_endings(rt, archives, volumes, listed, told)?;
     judge_release(rt, name, is_any(listed), is_agreed)?;
     release_each(rt, archives, volumes, name, listed, told)
 }

@@ -80,20 +80,20 @@ impl Work for ReadFront<'_> {
 
 /// The marks that are looked for in a volume.
 #[derive(Clone, Copy)]
-struct Marks<'m> {
+pub struct Marks<'m> {
     /// One that was noted elsewhere.
-    head: Option<&'m [u8]>,
+    pub head: Option<&'m [u8]>,
     /// How that begins after which the next volume began, where that names one.
-    next: Option<&'m [u8]>,
+    pub next: Option<&'m [u8]>,
 }
 
 /// What was found of the marks that are looked for.
 #[derive(Clone, Copy)]
-struct Met {
+pub struct Met {
     /// The event that has the one which was noted elsewhere, if one has it.
-    head: Option<u32>,
+    pub head: Option<u32>,
     /// Whether the one after which the next volume began is missing.
-    lacks_next: bool,
+    pub lacks_next: bool,
 }
 
 /// The event of a history that has a mark, where one is looked for.
@@ -110,7 +110,7 @@ fn event_of<S: Alter>(
 
 impl Marks<'_> {
     /// What is found of them in a history.
-    fn look_in<S: Alter>(
+    pub fn look_in<S: Alter>(
         self,
         rt: &HostRuntime,
         noted: &mut NotedStore<S>,
@@ -124,7 +124,7 @@ impl Marks<'_> {
     }
 
     /// What is found of them where there is no history.
-    fn nowhere(self) -> Met {
+    pub fn nowhere(self) -> Met {
         Met {
             head: None,
             lacks_next: self.next.is_some(),
@@ -227,7 +227,7 @@ pub fn behind_words(alloc: Global, volume: u32) -> Result<Shown, AllocError> {
 }
 
 /// That the history of a volume does not go on from the one before.
-fn alone_words(alloc: Global, volume: u32) -> Result<Shown, AllocError> {
+pub fn alone_words(alloc: Global, volume: u32) -> Result<Shown, AllocError> {
     let mut words = Shown::new(alloc);
     put!(words; "volume " value(&volume)
         ": its history does not name the mark of the volume before, so it may be that of another archive")?;
@@ -235,7 +235,7 @@ fn alone_words(alloc: Global, volume: u32) -> Result<Shown, AllocError> {
 }
 
 /// That no event of a volume has the mark after which the next one began.
-fn broken_words(alloc: Global, volume: u32) -> Result<Shown, AllocError> {
+pub fn broken_words(alloc: Global, volume: u32) -> Result<Shown, AllocError> {
     let next = volume.saturating_add(1);
     let mut words = Shown::new(alloc);
     put!(words; "volume " value(&next) " began after a mark that no event of volume " value(&volume)

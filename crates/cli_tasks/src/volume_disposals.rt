@@ -17,6 +17,7 @@ ghost use Rattle.cli_tasks.specs.Works.{EachVolume};
 
 use crate::archives::Archives;
 use crate::changes::{ChangeBy, LedgerWork, author_of_disposal, purpose_of_disposal};
+use crate::volume_chains::judge_chain;
 use crate::volume_numbers::judge_disposed;
 use crate::volume_plans::judge_plans;
 use crate::volume_row::{Volumes, author_in};
@@ -91,8 +92,13 @@ impl LedgerWork for DisposeDue<'_> {
     ) -> Result<DisposalTally, Failure> {
         let DisposeDue { volume, asked, day } = self;
         let mut certificates = Certificates::on_output(rt, Some(volume), seals);
-        let is_any = dispose_by(rt, ledger, &mut certificates, asked, day)?;
-        Ok(certificates.tally(is_any))
+        match dispose_by(rt, ledger, &mut certificates, asked, day) {
+            Ok(is_any) => Ok(certificates.tally(is_any)),
+            Err(failure) => {
+                certificates.tally(false).tell_gone(rt, Some(volume));
+                Err(failure)
+            }
+        }
     }
 }
 
@@ -154,7 +160,7 @@ fn judge_typed<A: Archives>(
     }
 }
 
-/// Finds that each volume has one plan, and that the disposal may begin in each.
+/// Finds that each volume has one plan and goes on from the one before, and that the disposal may begin in each.
 fn judge_all<A: Archives>(
     rt: &HostRuntime,
     archives: &A,
@@ -167,6 +173,7 @@ fn judge_all<A: Archives>(
         volumes.entry.folder.now told.now typed.now day volumes.entry.last) }
 {
     judge_plans(rt, archives, volumes)?;
+    judge_chain(rt, archives, volumes)?;
     for below in 0..volumes.last {
         judge_typed(rt, archives, volumes, below + 1, typed, day, told)?;
     }
@@ -257,10 +264,10 @@ fn dispose_in_each<A: Archives>(
 }
 
 /// Lists what is due in each volume and may be destroyed, or destroys it, volume by volume, each in its own ledger. Nothing is destroyed in
-/// any before it is found of each that it has the plan of the archive, and that its disposal may begin: else it fails as that does, with
-/// `BadData` for another plan. Another program may change a volume after that; each is judged once more, but for its plan, before anything is
-/// destroyed in it, and where it fails then, those before it are done. What is told once is told of all volumes. `Usage` where a number is typed without its
-/// volume, and `BadData` where there is no such volume.
+/// any before it is found of each that it has the plan of the archive and goes on from the one before, and that its disposal may begin:
+/// else it fails as that does, with `BadData` for another plan or another archive. Another program may change a volume after that; each is
+/// judged once more, but for its plan, before anything is destroyed in it, and where it fails then, those before it are done. What is told
+/// once is told of all volumes. `Usage` where a number is typed without its volume, and `BadData` where there is no such volume.
 pub fn dispose<A: Archives>(
     rt: &HostRuntime,
     archives: &A,
@@ -277,7 +284,7 @@ pub fn dispose<A: Archives>(
     judge_before(rt, archives, volumes, &typed, day, told)?;
     let mut tally = DisposalTally::none();
     let done = dispose_in_each(rt, archives, volumes, &typed, day, told, &mut tally);
-    tally.tell_gone(rt);
+    tally.tell_gone(rt, None);
     done?;
     tally.tell_none(rt, !typed.of_volumes.is_empty(), day)
 }

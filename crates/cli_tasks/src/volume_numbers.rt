@@ -89,6 +89,18 @@ pub fn judge_folder_name(rt: &HostRuntime, folder: &str) -> Result<(), Failure>
     judge_forgotten(rt, folder, FOLDER_FORGOTTEN)
 }
 
+/// What is said of numbers of records where the folder of a copy belongs.
+const COPY_FORGOTTEN: &str =
+    ": numbers of records, where the folder of the new archive belongs, which gets all records; type ./ before a folder of this name";
+
+/// Finds that the folder of a copy does not read as numbers of records. `Usage` where it does.
+pub fn judge_copy_name(rt: &HostRuntime, folder: &str) -> Result<(), Failure>
+    ensures named { OnOk result (reads_as_any_numbers folder.now ≡ false) }
+    ensures refused { IfErr result (IsToldAs Usage) }
+{
+    judge_forgotten(rt, folder, COPY_FORGOTTEN)
+}
+
 /// A choice that is typed, in a store that is one file. `Usage` where a number is typed with a volume.
 pub fn choice_in_file<'a>(rt: &HostRuntime, typed: TypedChoice<'a>) -> Result<Choice<'a>, Failure>
     ensures alone { IfOk result (λ c. c ≡ typed.entry.alone) }

@@ -3,6 +3,7 @@
 ghost use Rattle.std.specs.Prelude.{◌≡◌, All, true, IfOk, OnOk};
 ghost use Rattle.cli_history.specs.declared.opening.Purpose.TheVariants.{Ending};
 ghost use Rattle.cli_tasks.specs.Changes.{RefilesFound, ShowsMoves};
+ghost use Rattle.cli_tasks.specs.Endings.{JudgesWhereAny};
 ghost use Rattle.cli_tasks.specs.Refiles.{
   MovesEach,
   MovesIn,
@@ -13,7 +14,9 @@ ghost use Rattle.cli_tasks.specs.Refiles.{
 
 use crate::archives::{Archives, Work};
 use crate::changes::{ChangeBy, LedgerWork};
+use crate::volume_chains::judge_chain;
 use crate::volume_changes::Listed;
+use crate::volume_endings::judge_endings;
 use crate::volume_numbers::judge_numbers;
 use crate::volume_plans::judge_plans;
 use crate::volume_row::{Volumes, author_in};
@@ -23,7 +26,7 @@ use cli_changes::{
     MoveTally, RefilingTo, judge_moves, judge_refiling, judge_refused, moves_shown, refile_listed,
 };
 use cli_choice::{Questions, choice_in_volume};
-use cli_console::Failure;
+use cli_console::{Failure, today};
 use cli_history::{Purpose, Seals, StoreLedger};
 use cli_readings::judge_choice;
 use command_lines::archives::{Attribution, Choice, Refiling};
@@ -70,7 +73,8 @@ impl FindMoves<'_, '_> {
         } = self.asked;
         let is_noted = matches!(archive.event_layout(), EventLayout::Present);
         judge_refiling(rt, is_noted, archive.plan(), to)?;
-        let moves = moves_shown(rt, archive, Some(volume), to, choice, questions)?;
+        let day = today(rt)?;
+        let moves = moves_shown(rt, archive, Some(volume), to, day, choice, questions)?;
         Ok(Moved {
             tally: moves.tally(),
             numbers: moves.into_numbers(),
@@ -126,6 +130,7 @@ impl LedgerWork for RefileListed<'_, '_> {
             to,
             choice,
             questions,
+            ..
         } = self.asked;
         let refiling = RefilingTo {
             rt,
@@ -268,7 +273,7 @@ fn refile_any_in<A: Archives>(
     }
 }
 
-/// Gives the records that were listed another class, volume by volume.
+/// Gives the records that were listed another class, volume by volume, once the ledgers of these were judged.
 fn refile_each<A: Archives>(
     rt: &HostRuntime,
     archives: &A,
@@ -277,6 +282,8 @@ fn refile_each<A: Archives>(
     listed: &[Listed],
     told: &Attribution<'_>,
 ) -> Result<(), Failure>
+    requires { All (JudgesWhereAny A.Kept.Store (A.is_at archives.now) volumes.folder.now
+        told.now) listed.now }
     ensures { OnOk result (All (RefilesWhereAny A.Kept.Store (A.is_at archives.now)
         volumes.entry.folder.now told.now asked.entry.to.now asked.entry.typed.now
         asked.entry.questions.now) listed.now) }
@@ -289,8 +296,9 @@ fn refile_each<A: Archives>(
 
 /// Gives the records of a choice another class of the plan, once it was written what that changes in all volumes, and someone agrees.
 /// `Usage` where a number is typed without its volume or nobody agrees, and `BadData` where there is no such volume, or a volume has not
-/// the plan of the archive: then nothing is done. Else it fails as in a single store, at the first volume that does; also with `TryAgain`
-/// where other records of a volume would get the class by then.
+/// the plan of the archive, or does not go on from the one before; and, where the ledger of a volume of these records cannot be opened for
+/// this, as in a single store: then nothing is done. Another program may change a volume after that; where it fails then, those before it
+/// are done. `TryAgain` where other records of a volume would get the class by then.
 pub fn refile<A: Archives>(
     rt: &HostRuntime,
     archives: &A,
@@ -305,13 +313,16 @@ pub fn refile<A: Archives>(
     judge_numbers(rt, volumes.last, typed)?;
     let questions = judge_choice(rt, &typed.alone)?;
     judge_plans(rt, archives, volumes)?;
+    judge_chain(rt, archives, volumes)?;
     let asked = Asked {
         to: refiling.to.as_bytes(),
         typed,
         questions: &questions,
     };
     let AllMoved { tally, listed } = moves_in_each(rt, archives, volumes, asked)?;
+    let listed = listed.as_slice();
+    judge_endings(rt, archives, volumes, listed, told)?;
     judge_moves(rt, tally, refiling.is_agreed)?;
-    refile_each(rt, archives, volumes, asked, listed.as_slice(), told)?;
+    refile_each(rt, archives, volumes, asked, listed, told)?;
     judge_refused(tally.is_refused)
 }

@@ -26,13 +26,14 @@ pub struct Volumes<'a> {
     pub last: u32,
 }
 
-/// Who changes a volume, as the command line tells.
+/// Who changes a volume, as the command line tells, with its number.
 pub fn author_in<'a>(
     rt: &HostRuntime,
     told: &Attribution<'a>,
     volume: u32,
 ) -> Result<Author<'a>, AllocError>
-    ensures { IfOk result (λ author. IsTold told.now author) }
+    ensures told { IfOk result (λ author. IsTold told.now author) }
+    ensures volume { IfOk result (λ author. author.volume ≡ Some volume) }
 {
     Ok(Author::of(rt, told)?.in_volume(Some(volume)))
 }
@@ -59,7 +60,11 @@ pub fn failure_in(rt: &HostRuntime, failure: Failure, volume: u32) -> Failure
 }
 
 /// What was done with a volume. A failure names it, as `failure_in` says.
-fn named_in<T: Drop>(rt: &HostRuntime, done: Result<T, Failure>, volume: u32) -> Result<T, Failure>
+pub fn named_in<T: Drop>(
+    rt: &HostRuntime,
+    done: Result<T, Failure>,
+    volume: u32,
+) -> Result<T, Failure>
     ensures { IfOk result (λ x. done ≡ Ok x) }
 {
     done.map_err(|failure| failure_in(rt, failure, volume))

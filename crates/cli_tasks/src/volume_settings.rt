@@ -1,40 +1,39 @@
 //! Another plan for an archive of volumes, and titles of its classes: `plan --set` and `titles --set`.
 //!
-//! Both have the lock of the folder, so no volume is begun meanwhile that would take over what there was before. What is set is judged in all
-//! volumes first, and then set from the last one down. So the last volume has it first, whose plan and titles are those of the archive and of
-//! each volume that is begun. After a kill the last volume has each class of all others, so a plan that may replace that of the archive may
-//! replace that of each.
+//! Both have the lock of the folder, so no volume is begun meanwhile that would take over what there was before. What is set is judged in
+//! all volumes first, and then set from the last one down. So the last volume has it first, whose plan and titles are those of the archive
+//! and of each volume that is begun. After a kill the last volume has each class of all others, so a plan that may replace that of the
+//! archive may replace that of each.
 
 ghost use Rattle.std.specs.Prelude.{◌≡◌, IfOk, Ok, OnErr, OnOk};
 ghost use Rattle.class_plan.specs.Plans.{keeps};
 ghost use Rattle.record_ledger.specs.Ledgers.{keeper_of};
 ghost use Rattle.cli_changes.specs.Series.{KeepsAll, WasClean};
-ghost use Rattle.cli_tasks.specs.Changes.{JudgesPlan, MayReplace, OpensItsHistory};
+ghost use Rattle.cli_tasks.specs.Changes.{JudgesPlan, MayReplace};
+ghost use Rattle.cli_tasks.specs.Histories.{GivesTitlesOver};
 ghost use Rattle.cli_tasks.specs.Purposes.{for_plan};
 ghost use Rattle.cli_tasks.specs.Settings.{
   ChangesIn,
-  GivesTitlesOver,
   JudgesPlanIn,
-  OpensHistoryIn,
   ReplacesPlanIn,
   ReplacesPlanOver,
 };
 ghost use Rattle.cli_tasks.specs.Works.{EachVolume, OverVolumes};
 
-use crate::archives::{Archives, Work};
+use crate::archives::Archives;
 use crate::changes::{ChangeBy, Changing, LedgerWork, purpose_of_plan};
 use crate::rolling::no_volumes;
 use crate::titles::{SetTitles, tell_none};
 use crate::volume_plans::judge_plans;
 use crate::volume_row::{Volumes, author_in, volume_line};
+use crate::volume_soundness::judge_histories;
 use class_plan::Plan;
 use cli_changes::{read_plan, read_titles, replace_plan};
 use cli_console::{Failure, Status, write_text};
-use cli_history::{Author, Purpose, Seals, StoreLedger, open_noted};
+use cli_history::{Author, Purpose, Seals, StoreLedger};
 use cli_volumes::lock_folder;
 use command_lines::archives::Attribution;
-use record_store::Store;
-use sqlite::{Alter, Connection};
+use sqlite::Alter;
 use std::alloc::{AllocError, Global};
 
 /// Whether a plan has each class of a present one. The only refusal is no memory.
@@ -150,8 +149,8 @@ fn change_in<A: Archives>(
     volumes.lend(rt, archives, volume, ChangeBy { author, change })
 }
 
-/// Replaces the plan of each volume, from the last one down, once it was printed of each what that changes in it. Who agrees in the last one
-/// has agreed for all.
+/// Replaces the plan of each volume, from the last one down, once it was printed of each what that changes in it. Who agrees in the last
+/// one has agreed for all.
 fn replace_in_each<A: Archives>(
     rt: &HostRuntime,
     archives: &A,
@@ -190,17 +189,17 @@ fn failure_cut_off(rt: &HostRuntime, failure: Failure) -> Failure {
 }
 
 /// What was done in the volumes. It fails with `NotWritten` where the reader of the output has gone before it was done in all of them.
-fn not_cut_off<T: Drop>(rt: &HostRuntime, done: Result<T, Failure>) -> Result<T, Failure>
+pub fn not_cut_off<T: Drop>(rt: &HostRuntime, done: Result<T, Failure>) -> Result<T, Failure>
     ensures { IfOk result (λ x. done ≡ Ok x) }
 {
     done.map_err(|failure| failure_cut_off(rt, failure))
 }
 
 /// Replaces the plan of each volume of the archive in a folder by that of the file at a path. It is asked once, behind what that changes in
-/// the last volume; what it changes in each other one is printed before it is set there. `BadData` where the new plan leaves out a class of a
-/// volume, and `Usage` where nobody agrees, or a volume requires a reason and none is given: then it is set in none. `TryAgain` where another
-/// program begins a volume, or sets a plan or titles, and `NotWritten` where the reader of the output goes away. Another program may change a volume once it was judged; where the plan is refused there
-/// then, the volumes after it have the new plan.
+/// the last volume; what it changes in each other one is printed before it is set there. `BadData` where the new plan leaves out a class of
+/// a volume, and `Usage` where nobody agrees, or a volume requires a reason and none is given: then it is set in none. `TryAgain` where
+/// another program begins a volume, or sets a plan or titles, and `NotWritten` where the reader of the output goes away. Another program
+/// may change a volume once it was judged; where the plan is refused there then, the volumes after it have the new plan.
 pub fn set_plan<A: Archives>(
     rt: &HostRuntime,
     archives: &A,
@@ -218,42 +217,6 @@ pub fn set_plan<A: Archives>(
     judge_plan_in_each(rt, archives, volumes, &plan, path, told)?;
     let replaced = replace_in_each(rt, archives, volumes, &plan, path, is_agreed, told);
     not_cut_off(rt, replaced)
-}
-
-/// Opens the history of a store. `BadData` where it has none, or where it is damaged.
-#[derive(Drop)]
-struct OpenHistory;
-
-impl Work for OpenHistory {
-    type Answer = ();
-
-    ghost does = { λ S g it before done after. OnOk done (OpensItsHistory g before after) };
-
-    fn work<S: Alter>(
-        self,
-        rt: &HostRuntime,
-        archive: Store<S>,
-    ) -> (Connection<S>, Result<(), Failure>) {
-        match open_noted(rt, archive) {
-            Ok(noted) => (noted.into_store().into_connection(), Ok(())),
-            Err((archive, failure)) => (archive.into_connection(), Err(failure)),
-        }
-    }
-}
-
-/// Finds that each volume has a history. Else `BadData`.
-fn judge_histories<A: Archives>(
-    rt: &HostRuntime,
-    archives: &A,
-    volumes: Volumes<'_>,
-) -> Result<(), Failure>
-    ensures { OnOk result (EachVolume volumes.entry.last (OpensHistoryIn A.Kept.Store
-        (A.is_at archives.now) volumes.entry.folder.now)) }
-{
-    for below in 0..volumes.last {
-        volumes.lend(rt, archives, below + 1, OpenHistory)?;
-    }
-    Ok(())
 }
 
 /// Gives classes the titles of a text in a volume, and writes which have another one now, behind a line with its number. Answers whether
@@ -296,8 +259,8 @@ fn give_titles_in_each<A: Archives>(
 }
 
 /// Gives classes the titles of the file at a path, in each volume of the archive in a folder, and writes which have another one now.
-/// `BadData` where a volume has not the plan of the archive, or has no history, and where the file gives no titles: then nothing is noted in
-/// any. `TryAgain` where another program begins a volume, or sets a plan or titles.
+/// `BadData` where a volume has not the plan of the archive, or has no history or a damaged one, and where the file gives no titles: then
+/// nothing is noted in any. `TryAgain` where another program begins a volume, or sets a plan or titles.
 pub fn set_titles<A: Archives>(
     rt: &HostRuntime,
     archives: &A,

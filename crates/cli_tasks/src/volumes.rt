@@ -1,20 +1,21 @@
 //! What each subcommand does over an archive of volumes.
 
 ghost use Rattle.std.specs.Prelude.{OnOk};
-ghost use Rattle.cli_tasks.specs.Volumes.{DoesOver, DoesWithEach};
+ghost use Rattle.cli_tasks.specs.Volumes.{DoesOver, DoesWithEach, DoesWithHistories};
 
 use crate::archives::{Archives, lend};
 use crate::subcommands::{CheckRules, Survey, WritePlan, show, why};
+use crate::volume_beginnings::{accept_found, begin, require_reasons};
 use crate::volume_changes::{change_holds, release_all};
 use crate::volume_checks::check;
+use crate::volume_copies::copy_volumes;
 use crate::volume_disposals::dispose;
-use crate::volume_exports::export;
 use crate::volume_histories::{print_certificates, print_histories, write_holds};
-use crate::volume_lists::list;
+use crate::volume_readings::{export, list, report};
 use crate::volume_refilings::refile;
-use crate::volume_reports::report;
 use crate::volume_row::Volumes;
 use crate::volume_settings::{set_plan, set_titles};
+use crate::volume_twice::write_twice;
 use choice_words::TypedChoice;
 use cli_choice::Change;
 use cli_console::{Failure, Status};
@@ -41,6 +42,7 @@ pub fn is_over_volumes(
 ) -> Result<bool, AllocError> {
     match command {
         Command::Create { .. }
+        | Command::Adopt { .. }
         | Command::Deliver { .. }
         | Command::Intake { .. }
         | Command::Import(_) => Ok(false),
@@ -86,18 +88,24 @@ fn on_volumes<'a, A: Archives>(
     }
 }
 
-/// Prints the histories of the volumes of a folder. `Usage` for what changes one.
+/// Begins the histories of the volumes of a folder, notes whether they require reasons or that findings are accepted, or prints them.
+#[tactic(auto, using(crate::proofs::DoneLemmas::nothing_said))]
 fn history<A: Archives>(
     rt: &HostRuntime,
     archives: &A,
     volumes: Volumes<'_>,
     task: &HistoryTask<'_>,
-) -> Result<(), Failure> {
+    told: &Attribution<'_>,
+) -> Result<(), Failure>
+    ensures { OnOk result (DoesWithHistories A.Kept.Store (A.is_at archives.now)
+        volumes.entry.folder.now told.now task.now) }
+{
+    let folder = volumes.folder;
     match task {
+        HistoryTask::Begin => begin(rt, archives, folder, told),
+        HistoryTask::Reasons(reasons) => require_reasons(rt, archives, folder, *reasons, told),
+        HistoryTask::AcceptFound => accept_found(rt, archives, folder, told),
         HistoryTask::Print(typed) => print_histories(rt, archives, volumes, typed),
-        HistoryTask::Begin | HistoryTask::Reasons(_) | HistoryTask::AcceptFound => {
-            Err(not_over(rt, volumes.folder))
-        }
     }
 }
 
@@ -130,7 +138,8 @@ pub fn execute_over<A: Archives>(
             why(rt, archives, path.as_str(), &asked)
         }
         Command::Holds { is_json } => write_holds(rt, archives, volumes, is_json),
-        Command::History(task) => history(rt, archives, volumes, &task),
+        Command::Twice(listing) => write_twice(rt, archives, volumes, listing),
+        Command::History(task) => history(rt, archives, volumes, &task, told),
         Command::Certificates { numbers } => print_certificates(rt, archives, volumes, &numbers),
         Command::Chosen(typed, task) => on_volumes(rt, archives, volumes, &typed, &task, told),
         Command::ReleaseAll { name, is_agreed } => {
@@ -141,11 +150,11 @@ pub fn execute_over<A: Archives>(
             set_plan(rt, archives, folder, plan, is_agreed, told)
         }
         Command::SetTitles { titles } => set_titles(rt, archives, folder, titles, told),
+        Command::Copy { new, is_damaged } => copy_volumes(rt, archives, folder, new, is_damaged),
         Command::Create { .. }
+        | Command::Adopt { .. }
         | Command::Deliver { .. }
         | Command::Intake { .. }
-        | Command::Import(_)
-        | Command::Copy { .. }
-        | Command::Twice(_) => Err(not_over(rt, folder)),
+        | Command::Import(_) => Err(not_over(rt, folder)),
     }
 }

@@ -6,7 +6,7 @@ use Rattle.cli_volumes.specs.declared.rolling.Seen.{Seen}
 use Rattle.cli_volumes.specs.declared.rolling.Step.{Step}
 use Rattle.cli_volumes.specs.declared.rolling.Step.TheVariants.{Into, Note, Begin}
 use Rattle.cli_volumes.specs.Finding.{step_of}
-use Rattle.cli_volumes.specs.Names.{name_of, path_of, volume_named}
+use Rattle.cli_volumes.specs.Names.{draft_of, name_of, path_of, volume_named}
 use Rattle.cli_volumes.specs.Sheets.{spelling}
 
 -- the last volume, its octets, how many volumes are noted as begun, the size of a volume, and what is done
@@ -49,6 +49,9 @@ placed : map (λ folder. path_of folder 17) (codes "kept" ∷ codes "archive/kep
     ≡ codes "kept/0017.db" ∷ codes "archive/kept/0017.db" ∷ codes "/0017.db" ∷ []
 unfolding digits
 placed = refl
+
+drafts_are : map draft_of (codes "kept" ∷ codes "kept/" ∷ []) ≡ codes "kept.mailfile-new" ∷ codes "kept.mailfile-new" ∷ []
+drafts_are = refl
 
 sheet_is : spelling (record { size = 33554432; begun = 5 }) ≡ codes "mailfile volumes 1\nsize 33554432\nbegun 5\n"
 unfolding digits

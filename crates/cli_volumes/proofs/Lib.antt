@@ -1,3 +1,4 @@
 pub mod CallLaws
 pub mod SlashLaws
+mod AdoptingRows
 mod FindingRows

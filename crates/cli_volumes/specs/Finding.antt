@@ -19,8 +19,8 @@ pub data Call : Type 0 where
   unlock : Call
 
 -- from one moment to another these calls were made, and no others; `made` says which have been made at a moment
-abbrev pub Makes : {F : Type 0} (made : F → List Call → Type 0) (before after : F) (calls : List Call) → Type 0
-Makes made before after calls = (done : List Call) → made before done → made after (done ++ calls)
+abbrev pub Makes : {F C : Type 0} (made : F → List C → Type 0) (before after : F) (calls : List C) → Type 0
+Makes {F} {C} made before after calls = (done : List C) → made before done → made after (done ++ calls)
 
 abbrev pub seen_in : {F : Type 0} → Result Seen F → Option Seen
 seen_in (Ok seen) = Some seen

@@ -1,3 +1,4 @@
+pub mod Adopting
 pub mod Finding
 pub mod Names
 pub mod Sheets

@@ -32,3 +32,7 @@ path_in folder name = without_slash folder ++ (codes "/" ++ name)
 -- THE PATH OF A VOLUME in a folder
 abbrev pub path_of : (folder : List ℕ) (volume : ℕ) → List ℕ
 path_of folder volume = path_in folder (name_of volume)
+
+-- the path of a folder until it is whole
+abbrev pub draft_of : (folder : List ℕ) → List ℕ
+draft_of folder = without_slash folder ++ codes ".mailfile-new"

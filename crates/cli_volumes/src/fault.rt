@@ -16,10 +16,22 @@ pub enum NoVolumes {
     Unfinished,
     /// These volumes are missing, upwards.
     Missing(Vec<u32>),
-    /// Another program makes a volume.
+    /// This volume is a link, and its log lies beside the link, not beside the file.
+    LeftLog(u32),
+    /// Another program begins a volume, or sets something in all of them.
     Busy,
     /// There is something already where a new folder or volume is to be made.
     There,
+    /// A run that did not end has left the draft of the folder that is to be made.
+    Left,
+    /// A link is where a file is to be moved from.
+    Link,
+    /// What is to be moved was changed by another program, or is being changed.
+    Changed,
+    /// What is to be moved lies on another file system.
+    Elsewhere,
+    /// It was moved, and the disk failed before that lasts.
+    Unsettled,
     /// The system refuses.
     System(io::Error),
     /// The system refuses something of the file of this name.
@@ -58,6 +70,14 @@ impl From<RowFault> for NoVolumes {
             RowFault::NoMemory => NoVolumes::NoMemory,
         }
     }
+}
+
+/// Writes that the log of a volume lies beside a link, and what to do.
+fn write_left_log<W: fmt::Write>(f: &mut fmt::Formatter<W>, volume: u32) -> fmt::Result {
+    write!(
+        f,
+        "{volume:04}.db is a link, but its log {volume:04}.db-wal is not beside the file; move it there, under the name of the file with -wal"
+    )
 }
 
 /// How many missing volumes are named.
@@ -101,10 +121,26 @@ impl NoVolumes {
             NoVolumes::Unfinished => {
                 "no volume in it: create was cut off; remove the folder, and begin again"
             }
-            NoVolumes::Busy => "another program makes a volume of this archive",
+            NoVolumes::Busy => {
+                "another program begins a volume of this archive, sets something in all of them, or copies them"
+            }
             NoVolumes::There => "there is something already",
+            NoVolumes::Left => {
+                "a run that did not end has left a folder beside this path (.mailfile-new); remove it first"
+            }
+            NoVolumes::Link => "a link; name the file that it leads to",
+            NoVolumes::Changed => "another program has changed it meanwhile; do it once more",
+            NoVolumes::Elsewhere => {
+                "on another file system than the new folder; copy it to that one, and adopt the copy"
+            }
+            NoVolumes::Unsettled => {
+                "the store was moved here, but the disk failed; a power cut may put it back"
+            }
             NoVolumes::NoMemory => "out of memory",
-            NoVolumes::Missing(_) | NoVolumes::System(_) | NoVolumes::File(..) => "refused",
+            NoVolumes::Missing(_)
+            | NoVolumes::LeftLog(_)
+            | NoVolumes::System(_)
+            | NoVolumes::File(..) => "refused",
         }
     }
 }
@@ -115,6 +151,7 @@ impl fmt::Display for NoVolumes {
             NoVolumes::System(error) => write!(f, "{error}"),
             NoVolumes::File(name, error) => write!(f, "{name}: {error}"),
             NoVolumes::Missing(volumes) => write_missing(f, volumes.as_slice()),
+            NoVolumes::LeftLog(volume) => write_left_log(f, *volume),
             cause => f.write_str(cause.words()),
         }
     }

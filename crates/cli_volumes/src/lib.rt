@@ -3,23 +3,31 @@
 //! - `names`: the names of volumes;
 //! - `sheet`: the file `volumes`, which has the size of a volume and how many were begun;
 //! - `rolling`: the volume into which a message goes, over any folder (`VolumeFolder`), whose calls are counted;
+//! - `adopting`: a store in one file that becomes the first volume of a new archive, over any folder (`AdoptingFolder`), in the same way;
 //! - `row`: the row of the volumes in a folder, and their lock;
 //! - `making`: folders, and volumes that get their names;
+//! - `moving`: files that are moved to a folder, and folders that get their names;
 //! - `fault`: why there is no archive of volumes, in words.
 //!
-//! No store is opened here. In `specs/`, `Names` says which names are those of volumes, `Sheets` how the file `volumes` is spelled, and
-//! `Finding` by which calls a volume is found for a message.
+//! No store is opened here. In `specs/`, `Names` says which names are those of volumes, `Sheets` how the file `volumes` is spelled,
+//! `Finding` by which calls a volume is found for a message, and `Adopting` by which calls a store becomes a first volume.
 #![tactic(auto)]
 
+mod adopting;
 mod fault;
 mod making;
+mod moving;
 mod names;
 mod rolling;
 mod row;
 mod sheet;
 
+pub use adopting::{AdoptingFolder, adopt_into};
 pub use fault::NoVolumes;
 pub use making::{clear_draft, create_folder, note_begun, place_volume, remove_folder};
+pub use moving::{
+    begin_copy, end_copy, judge_new_folder, judge_own_name, move_to_first, remove_copy, remove_log,
+};
 pub use names::{path_of, volume_name, volume_of};
 pub use rolling::{Seen, Step, VolumeFolder, volume_for_capture};
 pub use row::{FolderLock, Row, has_volumes, lock_folder, octets_of, row_in};

@@ -1,7 +1,7 @@
 //! Folders of volumes, and volumes that get their names.
 
 use crate::fault::NoVolumes;
-use crate::names::{path_in, path_of};
+use crate::names::{DRAFT, path_in, path_of};
 use crate::row::{LOCK, MODE, SHEET, sheet_in};
 use crate::sheet::{Sheet, sheet_text};
 use std::alloc::AllocError;
@@ -10,13 +10,10 @@ use std::io::{self, ErrorKind, Write};
 use std::os::unix::fs::{DirBuilderExt, OpenOptionsExt};
 
 /// The permissions of a folder: its owner alone may look into it and change it.
-const FOLDER_MODE: u32 = 0o700;
+pub(crate) const FOLDER_MODE: u32 = 0o700;
 
 /// The file that takes the place of the one that has the size, once it is whole.
 const SHEET_DRAFT: &str = "volumes.mailfile-new";
-
-/// What the name of a file ends with until it is whole.
-const ENDING: &str = ".mailfile-new";
 
 /// Removes a file, where it is there.
 fn remove_if_there(rt: &HostRuntime, path: &str) -> io::Result<()> {
@@ -27,7 +24,7 @@ fn remove_if_there(rt: &HostRuntime, path: &str) -> io::Result<()> {
 }
 
 /// Makes the names in a folder last over a power cut.
-fn settle(rt: &HostRuntime, folder: &str) -> io::Result<()> {
+pub(crate) fn settle(rt: &HostRuntime, folder: &str) -> io::Result<()> {
     fs::open(rt, folder)?.sync_all()
 }
 
@@ -68,18 +65,18 @@ pub fn note_begun(rt: &HostRuntime, folder: &str, begun: u32) -> Result<(), NoVo
     )
 }
 
-/// Writes the files of a folder for volumes of a size, in which none is begun.
-fn fill_folder(rt: &HostRuntime, folder: &str, size: u64) -> Result<(), NoVolumes> {
+/// Writes the files that a folder of volumes has beside them.
+pub(crate) fn fill_folder(rt: &HostRuntime, folder: &str, sheet: Sheet) -> Result<(), NoVolumes> {
     let lock = path_in(rt.alloc(), folder, LOCK)?;
     write_new(rt, lock.as_str(), b"")?;
-    write_sheet(rt, folder, Sheet { size, begun: 0 })
+    write_sheet(rt, folder, sheet)
 }
 
 /// Makes a folder for volumes of a size, in which none is begun. `There` where anything is at its path. Where another call fails, the
 /// folder is removed.
 pub fn create_folder(rt: &HostRuntime, folder: &str, size: u64) -> Result<(), NoVolumes> {
     DirBuilder::new().mode(FOLDER_MODE).create(rt, folder)?;
-    let filled = fill_folder(rt, folder, size);
+    let filled = fill_folder(rt, folder, Sheet { size, begun: 0 });
     if filled.is_err() {
         remove_folder(rt, folder)?;
     }
@@ -92,6 +89,11 @@ pub fn remove_folder(rt: &HostRuntime, folder: &str) -> Result<(), AllocError> {
     if fs::symlink_metadata(rt, first.as_str()).is_ok() {
         return Ok(());
     }
+    remove_frame(rt, folder)
+}
+
+/// Removes a folder without volumes, and the files that it has beside them, as far as the system lets it.
+pub(crate) fn remove_frame(rt: &HostRuntime, folder: &str) -> Result<(), AllocError> {
     for name in [SHEET_DRAFT, SHEET, LOCK] {
         let path = path_in(rt.alloc(), folder, name)?;
         let _ = fs::remove_file(rt, path.as_str());
@@ -101,7 +103,7 @@ pub fn remove_folder(rt: &HostRuntime, folder: &str) -> Result<(), AllocError> {
 }
 
 /// Finds that nothing is at a path. Else `There`.
-fn judge_free(rt: &HostRuntime, path: &str) -> Result<(), NoVolumes> {
+pub(crate) fn judge_free(rt: &HostRuntime, path: &str) -> Result<(), NoVolumes> {
     match fs::symlink_metadata(rt, path) {
         Ok(_) => Err(NoVolumes::There),
         Err(error) if error.kind() == ErrorKind::NotFound => Ok(()),
@@ -113,7 +115,7 @@ fn judge_free(rt: &HostRuntime, path: &str) -> Result<(), NoVolumes> {
 /// folder, so that no other program makes it.
 pub fn clear_draft(rt: &HostRuntime, folder: &str, volume: u32) -> Result<(), NoVolumes> {
     let path = path_of(rt.alloc(), folder, volume)?;
-    let draft = format!(in rt.alloc(); "{path}{ENDING}")?;
+    let draft = format!(in rt.alloc(); "{path}{DRAFT}")?;
     let log = format!(in rt.alloc(); "{draft}-wal")?;
     remove_if_there(rt, log.as_str())?;
     remove_if_there(rt, draft.as_str())?;

@@ -1,7 +1,7 @@
 //! The names of volumes: `0001.db`, `0002.db` and so on.
 
 ghost use Rattle.std.specs.Prelude.{◌≡◌, ◌++◌, IfOk, OnOk, decimal, string_bytes};
-ghost use Rattle.cli_volumes.specs.Names.{name_of, path_in as path_of_name, path_of as path_of_volume, volume_named, without_slash};
+ghost use Rattle.cli_volumes.specs.Names.{draft_of, name_of, path_in as path_of_name, path_of as path_of_volume, volume_named, without_slash};
 
 use record_volumes::LAST_VOLUME;
 use session_words::read_digits;
@@ -12,6 +12,9 @@ const ENDING: &[u8] = b".db";
 
 /// How many digits come before that.
 const DIGITS: usize = 4;
+
+/// What the path of a file or of a folder ends with until it is whole.
+pub(crate) const DRAFT: &str = ".mailfile-new";
 
 /// The number of the volume in a file of a name: four digits, not all of them 0, and `.db`. None for any other name.
 pub fn volume_of(name: &[u8]) -> Option<u32>
@@ -47,7 +50,7 @@ pub fn volume_name(alloc: Global, volume: u32) -> Result<String, AllocError>
 }
 
 /// The path of a folder without the slash that it may end with.
-fn without_slash(folder: &str) -> &str
+pub(crate) fn without_slash(folder: &str) -> &str
     ensures { result.now ≡ without_slash folder.now }
 {
     match folder.strip_suffix('/') {
@@ -62,6 +65,14 @@ pub(crate) fn path_in(alloc: Global, folder: &str, name: &str) -> Result<String,
 {
     let folder = without_slash(folder);
     format!(in alloc; "{folder}/{name}")
+}
+
+/// The path of a folder until it is whole. One slash at the end of its path is none of it.
+pub(crate) fn draft_of(alloc: Global, folder: &str) -> Result<String, AllocError>
+    ensures { IfOk result (λ path. string_bytes path ≡ draft_of folder.now) }
+{
+    let place = without_slash(folder);
+    format!(in alloc; "{place}{DRAFT}")
 }
 
 /// The path of a volume in a folder.

@@ -23,6 +23,10 @@ pub(crate) const MODE: u32 = 0o600;
 /// A sheet has fewer octets.
 const MOST: u64 = 128;
 
+/// A log with a change has as many octets at least: 32 before its pages, each of which has 512 at least behind 24 of its own. One that was
+/// copied into its file is shorter.
+const LEAST_LOG: u64 = 32 + 24 + 512;
+
 /// The volumes of an archive.
 #[derive(Clone, Copy)]
 pub struct Row {
@@ -31,23 +35,44 @@ pub struct Row {
     pub last: u32,
 }
 
-/// Whether a path leads nowhere.
+/// Whether a path leads nowhere, as a link to no file, or to itself.
 fn is_nowhere(error: &io::Error) -> bool {
-    matches!(error.kind(), ErrorKind::NotFound | ErrorKind::NotADirectory)
+    matches!(
+        error.kind(),
+        ErrorKind::NotFound | ErrorKind::NotADirectory | ErrorKind::FilesystemLoop
+    )
 }
 
-/// The sheet of a folder.
+/// Whether a file is at a path, or a link to one.
+fn is_file(rt: &HostRuntime, path: &str) -> io::Result<bool> {
+    match fs::metadata(rt, path) {
+        Ok(found) => Ok(found.is_file()),
+        Err(error) if is_nowhere(&error) => Ok(false),
+        Err(error) => Err(error),
+    }
+}
+
+/// The first octets of the file at a path, more than a sheet may have; none where there is no file.
+fn octets_at(rt: &HostRuntime, path: &str) -> io::Result<Option<Vec<u8>>> {
+    // A pipe would be waited for.
+    if !is_file(rt, path)? {
+        return Ok(None);
+    }
+    let mut octets = Vec::new(rt.alloc());
+    fs::open(rt, path)?.take(MOST).read_to_end(&mut octets)?;
+    Ok(Some(octets))
+}
+
+/// The sheet of a folder. `NoArchive` where it has no file of that name.
 pub(crate) fn sheet_in(rt: &HostRuntime, folder: &str) -> Result<Sheet, NoVolumes> {
     let path = path_in(rt.alloc(), folder, SHEET)?;
-    let file = match fs::open(rt, path.as_str()) {
-        Ok(file) => file,
-        Err(error) if error.kind() == ErrorKind::NotFound => return Err(NoVolumes::NoArchive),
+    let octets = match octets_at(rt, path.as_str()) {
+        Ok(octets) => octets,
         Err(error) => return Err(NoVolumes::of_file(rt.alloc(), SHEET, error)),
     };
-    let mut octets = Vec::new(rt.alloc());
-    if let Err(error) = file.take(MOST).read_to_end(&mut octets) {
-        return Err(NoVolumes::of_file(rt.alloc(), SHEET, error));
-    }
+    let Some(octets) = octets else {
+        return Err(NoVolumes::NoArchive);
+    };
     read_sheet(rt.alloc(), octets.as_slice())?.ok_or(NoVolumes::Damaged)
 }
 
@@ -71,18 +96,37 @@ fn volumes_named(rt: &HostRuntime, folder: &str) -> io::Result<Vec<u32>> {
 /// Whether a volume is there: a file of its name, or a link to one.
 fn is_there(rt: &HostRuntime, folder: &str, volume: u32) -> Result<bool, NoVolumes> {
     let path = path_of(rt.alloc(), folder, volume)?;
-    match fs::metadata(rt, path.as_str()) {
-        Ok(found) => Ok(found.is_file()),
-        Err(error) if is_nowhere(&error) => Ok(false),
-        Err(error) => Err(NoVolumes::of_volume(rt.alloc(), volume, error)),
+    is_file(rt, path.as_str()).map_err(|error| NoVolumes::of_volume(rt.alloc(), volume, error))
+}
+
+/// Whether a link is at a path.
+fn is_link(rt: &HostRuntime, path: &str) -> bool {
+    match fs::symlink_metadata(rt, path) {
+        Ok(found) => found.is_symlink(),
+        Err(_) => false,
     }
 }
 
-/// Those of some volumes that are there.
+/// Finds that no log with a change lies in the folder beside a volume that is a link. A store that is opened by a link has its log beside
+/// its file, so the change would be lost. Else `LeftLog`.
+fn judge_log(rt: &HostRuntime, folder: &str, volume: u32) -> Result<(), NoVolumes> {
+    let path = path_of(rt.alloc(), folder, volume)?;
+    if !is_link(rt, path.as_str()) {
+        return Ok(());
+    }
+    let log = format!(in rt.alloc(); "{path}-wal")?;
+    match fs::metadata(rt, log.as_str()) {
+        Ok(found) if found.len() >= LEAST_LOG => Err(NoVolumes::LeftLog(volume)),
+        _ => Ok(()),
+    }
+}
+
+/// Those of some volumes that are there. `LeftLog` where one is a link beside which its log lies, with a change.
 fn volumes_there(rt: &HostRuntime, folder: &str, named: &[u32]) -> Result<Vec<u32>, NoVolumes> {
     let mut volumes = Vec::new(rt.alloc());
     for volume in named {
         if is_there(rt, folder, *volume)? {
+            judge_log(rt, folder, *volume)?;
             volumes.push(*volume)?;
         }
     }
@@ -107,15 +151,15 @@ fn has_first(rt: &HostRuntime, folder: &str) -> Result<bool, AllocError> {
 /// may have it, since nobody may look into it. Of these two `row_in` says why the volumes cannot be had.
 pub fn has_volumes(rt: &HostRuntime, path: &str) -> Result<bool, AllocError> {
     let sheet = path_in(rt.alloc(), path, SHEET)?;
-    match fs::metadata(rt, sheet.as_str()) {
-        Ok(found) => Ok(found.is_file()),
-        Err(error) if is_nowhere(&error) => has_first(rt, path),
+    match is_file(rt, sheet.as_str()) {
+        Ok(true) => Ok(true),
+        Ok(false) => has_first(rt, path),
         Err(error) => Ok(error.kind() == ErrorKind::PermissionDenied && is_folder(rt, path)),
     }
 }
 
 /// The row of the volumes in a folder: of one at least. `Missing` where a volume of the row has no name in the folder, or where a name
-/// leads to no file.
+/// leads to no file; `LeftLog` where the log of one, with a change, lies in the folder beside a link.
 pub fn row_in(rt: &HostRuntime, folder: &str) -> Result<Row, NoVolumes>
     ensures { IfOk result (λ row. 1 ≤ row.last) }
 {

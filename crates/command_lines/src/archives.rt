@@ -58,6 +58,12 @@ pub enum Command<'a> {
         /// The size of its volumes, in octets; none for a store in one file.
         size: Option<u64>,
     },
+    /// Makes a new store in a folder of volumes, of which the first one is the store in the file at a path, which is moved there.
+    Adopt {
+        file: &'a str,
+        /// The size of its volumes, in octets.
+        size: u64,
+    },
     /// Writes the plan as text.
     WritePlan,
     /// Replaces the plan by the one in the file at a path.
@@ -437,6 +443,22 @@ fn why_asked<'a>(alloc: Global, asked: &ArgMatches<'a>) -> Result<Why<'a>, NoCom
     })
 }
 
+/// What is made: a new store with a plan, or one of volumes that begins with a store that is there.
+fn create_asked<'a>(alloc: Global, asked: &ArgMatches<'a>) -> Result<Command<'a>, NoCommand> {
+    let size = size_asked(alloc, asked)?;
+    match (value_of(asked, words::ADOPT), size) {
+        (Some(file), Some(size)) => Ok(Command::Adopt { file, size }),
+        (Some(_), None) => Err(NoCommand::Wrong(String::from_str(
+            alloc,
+            "--adopt needs the size of --roll",
+        )?)),
+        (None, size) => Ok(Command::Create {
+            plan: required(asked, words::PLAN_FILE)?,
+            size,
+        }),
+    }
+}
+
 /// A subcommand that makes an archive or changes what it keeps, where the name is that of one.
 fn change_asked<'a>(
     alloc: Global,
@@ -444,10 +466,7 @@ fn change_asked<'a>(
     asked: &ArgMatches<'a>,
 ) -> Result<Option<Command<'a>>, NoCommand> {
     Ok(Some(match name {
-        "create" => Command::Create {
-            plan: required(asked, words::PLAN_FILE)?,
-            size: size_asked(alloc, asked)?,
-        },
+        "create" => create_asked(alloc, asked)?,
         "plan" => plan_asked(alloc, asked)?,
         "deliver" => Command::Deliver {
             filing: filing_asked(alloc, asked)?,

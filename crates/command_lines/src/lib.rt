@@ -1,5 +1,6 @@
 //! The command lines of the three programs, read into types: what a program is asked to do, or why that is nothing.
 //!
+//! - `streams`: the standard streams of the process;
 //! - `table`: subcommands with their words, as data; `reading`: the words that `clap` finds by them;
 //! - `hints`: the option that is meant by a word that is none;
 //! - `wrapping`: help, at most 80 columns wide;
@@ -12,8 +13,10 @@ pub mod archives;
 mod hints;
 mod reading;
 pub mod session;
+mod streams;
 mod table;
 pub mod tools;
 mod wrapping;
 
 pub use reading::{NoCommand, words_of_process};
+pub use streams::fill_streams;

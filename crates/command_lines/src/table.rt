@@ -30,6 +30,8 @@ pub struct Word {
     /// What its value is called where it is shown; unused for a flag.
     pub value: &'static str,
     pub is_required: bool,
+    /// The name of a word beside which a required one need not be given, if there is one.
+    pub substitute: Option<&'static str>,
     /// What the word is for, if that is told.
     pub help: Option<&'static str>,
     /// The name of a word that may not stand beside it, if there is one.
@@ -44,6 +46,7 @@ pub const PLACE: Word = Word {
     form: Form::Place,
     value: "",
     is_required: true,
+    substitute: None,
     help: None,
     conflict: None,
     takes_hyphens: false,
@@ -158,12 +161,18 @@ fn helped<'a>(argument: Arg<'a>, word: &Word) -> Arg<'a> {
     }
 }
 
+/// An argument that has to be given where a word has to be.
+fn needed<'a>(argument: Arg<'a>, word: &Word) -> Result<Arg<'a>, AllocError> {
+    match word.substitute {
+        Some(name) => argument.required_unless_present(name),
+        None => Ok(argument.required(word.is_required)),
+    }
+}
+
 /// The argument that a word is.
 pub fn argument_of<'a>(alloc: Global, word: &Word) -> Result<Arg<'a>, AllocError> {
-    let argument = Arg::new(alloc, word.name)
-        .action(action_of(word.form))
-        .required(word.is_required);
-    let argument = helped(formed(argument, word), word);
+    let argument = Arg::new(alloc, word.name).action(action_of(word.form));
+    let argument = helped(formed(needed(argument, word)?, word), word);
     match word.conflict {
         Some(name) => argument.conflicts_with(name),
         None => Ok(argument),

@@ -3,10 +3,11 @@
 use class_plan::Plan;
 use cli_console::{Failure, Status};
 use cli_files::{NoStore, create_archive, draft_for, give_place, open_archive, remove_files};
-use cli_tasks::{Archives, Closed, Work};
+use cli_tasks::{Archives, Closed, Filling, Work};
 use record_files::{Closing, close};
 use record_places::System;
-use sqlite::{FileFrom, FileStore, Unknown};
+use record_store::Store;
+use sqlite::{Alter, Connection, FileFrom, FileStore, Unknown};
 use std::alloc::Global;
 use std::fs;
 
@@ -52,6 +53,16 @@ fn closed_by(closing: Closing) -> Closed {
     }
 }
 
+/// The store in the file at a path.
+fn open_at(rt: &HostRuntime, path: &str) -> Result<Store<FileStore<FileFrom<Unknown>>>, Failure> {
+    open_archive(&mut System::new(rt), rt.alloc(), path, Unknown).map_err(|cause| unless_folder(
+        rt,
+        path,
+        Status::NoInput,
+        no_store(rt.alloc(), path, cause),
+    ))
+}
+
 /// Archives, each in the file at its path and the log beside it.
 #[derive(Clone, Copy)]
 pub struct FileArchives;
@@ -68,16 +79,30 @@ impl Archives for FileArchives {
         path: &str,
         work: W,
     ) -> Result<(Result<W::Answer, Failure>, Closed), Failure> {
-        match open_archive(&mut System::new(rt), rt.alloc(), path, Unknown) {
+        match open_at(rt, path) {
             Ok(archive) => {
                 let (conn, done) = work.work(rt, archive);
                 let (_files, closing) = close(rt.alloc(), conn);
                 Ok((done, closed_by(closing)))
             }
-            Err(cause) => {
-                let failure = no_store(rt.alloc(), path, cause);
-                Err(unless_folder(rt, path, Status::NoInput, failure))
+            Err(failure) => Err(failure),
+        }
+    }
+
+    fn lend_to_fill<F: Filling, S: Alter>(
+        &self,
+        rt: &HostRuntime,
+        draft: &str,
+        filling: F,
+        from: &mut Connection<S>,
+    ) -> Result<(Result<(), Failure>, Closed), Failure> {
+        match open_at(rt, draft) {
+            Ok(archive) => {
+                let (conn, done) = filling.fill(rt, archive, from);
+                let (_files, closing) = close(rt.alloc(), conn);
+                Ok((done, closed_by(closing)))
             }
+            Err(failure) => Err(failure),
         }
     }
 

@@ -3,7 +3,7 @@
 #![tactic(auto)]
 
 use command_lines::tools::{Command, Explain, read_command};
-use command_lines::{NoCommand, words_of_process};
+use command_lines::{NoCommand, fill_streams, words_of_process};
 use std::process::ExitCode;
 use tool_console::{Failure, Verdict, explain, frame, tell, tell_number, tell_numbers, tell_words};
 use tool_scripts::{check_files, compile_script, dump_image, tell_why, write_recipients};
@@ -87,6 +87,7 @@ fn serve(rt: &HostRuntime, words: &[String]) -> ExitCode {
 }
 
 fn main(rt: HostRuntime) -> ExitCode {
+    let _ = fill_streams(&rt);
     match words_of_process(&rt) {
         Ok(words) => serve(&rt, words.as_slice()),
         Err(why) => tell_no_command(&rt, &why),

@@ -1,10 +1,8 @@
 -- Writing in pieces.
-use Rattle.std.proofs.Common.{◌≡◌, ℕ, ◌+◌, ◌<◌, List, ◌∷◌, ◌++◌, length, take, drop, min, get_or, ap, sym, ◌∙◌, append_assoc, add-one, subst}
+use Rattle.std.proofs.Common.{◌≡◌, ℕ, ◌+◌, ◌<◌, List, ◌∷◌, ◌++◌, length, take, drop, get_or, ap, sym, ◌∙◌, append_assoc, add-one}
 use Rattle.std.specs.Prelude.{flat_map, Result, Ok, Err, OnOk}
 use Rattle.std.specs.Result.{IsErr, is_err}
 use Rattle.std.specs.Prelude.{true, false}
-use Rattle.std.proofs.lemmas.List.{take_min, take-append-le}
-use Rattle.std.proofs.Math.Nat.{min-le_right}
 use Rattle.std.proofs.Math.Seq.{take-append-add, drop-cons}
 use Rattle.std.proofs.lemmas.Bool.{false≢true}
 use Rattle.std.proofs.lemmas.Grind.{flat_map-append}
@@ -12,13 +10,6 @@ use Rattle.std.proofs.lemmas.List.{take-append-drop}
 use Rattle.session_protocol.specs.Streams.{IsAfter}
 use Rattle.session_protocol.specs.Written.{Writes}
 use Rattle.session_protocol.specs.declared.stream.WriteFault.{WriteFault}
-
--- a prefix of the first octets is one of them all
-pub extends : (old xs ys new : List ℕ) → IsAfter old xs new → IsAfter old (xs ++ ys) new
-extends old xs ys new b =
-    let k : ℕ = min b.0 (length xs) in
-    let part : take k (xs ++ ys) ≡ take b.0 xs = take-append-le k xs ys (min-le_right b.0 (length xs)) ∙ take_min b.0 xs in
-    (k, b.1 ∙ ap (λ s. old ++ s) (sym part))
 
 -- a prefix of the next octets
 pub joins : (old xs mid ys new : List ℕ) → mid ≡ old ++ xs → IsAfter mid ys new → IsAfter old (xs ++ ys) new
@@ -33,20 +24,11 @@ writes_after (Err f) old xs mid ys new e w = joins old xs mid ys new e w
 drop_next : {X : Type 0} (xs : List X) (i : ℕ) (d : X) → i < length xs → drop i xs ≡ get_or xs i d ∷ drop (i + 1) xs
 drop_next xs i d h = rw add-one (drop-cons xs i d h)
 
-flat_map_at : {X : Type 0} (f : X → List ℕ) (xs : List X) (i : ℕ) (d : X) → i < length xs
+pub flat_map_at : {X : Type 0} (f : X → List ℕ) (xs : List X) (i : ℕ) (d : X) → i < length xs
     → flat_map f xs ≡ flat_map f (take i xs) ++ (f (get_or xs i d) ++ flat_map f (drop (i + 1) xs))
 flat_map_at f xs i d h =
     ap (flat_map f) (sym (take-append-drop i xs)) ∙ flat_map-append f (take i xs) (drop i xs)
     ∙ ap (λ s. flat_map f (take i xs) ++ flat_map f s) (drop_next xs i d h)
-
--- a prefix of the octets of the next element
-pub after_next : {X : Type 0} (f : X → List ℕ) (xs : List X) (i : ℕ) (d : X) (old mid new : List ℕ) → i < length xs
-    → mid ≡ old ++ flat_map f (take i xs) → IsAfter mid (f (get_or xs i d)) new → IsAfter old (flat_map f xs) new
-after_next f xs i d old mid new h e b =
-    let P : List ℕ → Type 0 = λ s. IsAfter old s new in
-    subst P (sym (flat_map_at f xs i d h))
-    (joins old (flat_map f (take i xs)) mid (f (get_or xs i d)
-    ++ flat_map f (drop (i + 1) xs)) new e (extends mid (f (get_or xs i d)) (flat_map f (drop (i + 1) xs)) new b))
 
 pub as_fault : (r : Result (Unit {0}) WriteFault) (old xs new : List ℕ) → IsErr r → IsAfter old xs new → Writes r old xs new
 as_fault (Err f) old xs new is b = b

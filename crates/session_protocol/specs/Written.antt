@@ -1,16 +1,21 @@
 -- What was written.
-use Rattle.std.specs.Prelude.{◌≡◌, ℕ, List, ◌++◌, Bool, false, ◌==◌, Result, MatchResult}
-use Rattle.std.specs.List.{list_any}
+use Rattle.std.specs.Prelude.{◌≡◌, ◌≤◌, ℕ, List, [], ◌++◌, length, Result, MatchResult}
 use Rattle.session_protocol.specs.Streams.{IsAfter}
 
 -- all these octets follow those that were there, or after a fault a prefix of them does
 abbrev pub Writes : {F : Type 0} → Result (Unit {0}) F → (old octets new : List ℕ) → Type 0
 Writes r old octets new = MatchResult r (λ _. new ≡ old ++ octets) (λ _. IsAfter old octets new)
 
--- an octet among them ends a line: LF
-abbrev pub has_line_end : List ℕ → Bool
-has_line_end octets = list_any (λ o. o == 10) octets
+-- THE FIRST OF SOME OCTETS ARE SENT, behind those that were written before, and the rest of them is left. None is sent where
+-- all of them fit a buffer.
+pub record Sends (octets left old new : List ℕ) : Type 0 where
+  pub sent : List ℕ
+  pub written : new ≡ old ++ sent
+  pub rest : octets ≡ sent ++ left
+  pub together : length octets ≤ 4096 → sent ≡ []
 
--- all that was written has been sent, but for an end of it in which no line ends
-abbrev pub SendsLines : (sent written : List ℕ) → Type 0
-SendsLines sent written = (held : List ℕ) × (written ≡ sent ++ held) × (has_line_end held ≡ false)
+-- OCTETS COME BEHIND THOSE THAT A BUFFER HOLDS: the first of them all are sent, and the rest is held. After a fault some
+-- prefix of them all is sent.
+abbrev pub Buffers : {F : Type 0} → Result (Unit {0}) F → (old held octets new kept : List ℕ) → Type 0
+Buffers r old held octets new kept =
+    MatchResult r (λ _. Sends (held ++ octets) kept old new) (λ _. (rest : List ℕ) × Sends (held ++ octets) rest old new)

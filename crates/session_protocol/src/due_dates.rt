@@ -4,10 +4,11 @@ ghost use Rattle.std.specs.Prelude.{◌≡◌, ◌++◌, pos, codes, decimal, op
 ghost use Rattle.jiff.specs.Words.{epoch_day, IsBetween};
 ghost use Rattle.class_plan.specs.Calendar.{number_of_day};
 ghost use Rattle.session_protocol.specs.Dates.{civil_octets, day_octets, due_octets, two_digits};
-ghost use Rattle.session_protocol.specs.Written.{Writes};
+ghost use Rattle.session_protocol.specs.Written.{Buffers};
 ghost use Rattle.session_protocol.specs.Streams.{TellsTroubles};
 
-use crate::stream::{Sink, WriteFault, write_all, write_pieces};
+use crate::buffer::{ReplyBuffer, buffer_all, buffer_pieces};
+use crate::stream::{Sink, WriteFault};
 use class_plan::{Date, date_of, day_number};
 use itoa::Buffer;
 
@@ -26,11 +27,17 @@ fn dash_before(part: u8) -> &'static [u8]
     if part < 10 { b"-0" } else { b"-" }
 }
 
-/// Writes a date by its year, its month and its day, and the end of its line.
-fn write_civil<K: Sink>(sink: &mut K, year: u16, month: u8, day: u8) -> Result<(), WriteFault>
-    ensures written { K.tells → Writes result (K.written sink.old)
+/// Adds a date by its year, its month and its day, and the end of its line.
+fn buffer_civil<K: Sink>(
+    sink: &mut K,
+    buffer: &mut ReplyBuffer,
+    year: u16,
+    month: u8,
+    day: u8,
+) -> Result<(), WriteFault>
+    ensures written { K.tells → Buffers result (K.written sink.old) buffer.old
         (civil_octets (record { year = year; month = month; day = day }) ++ codes "\n")
-        (K.written sink.new) }
+        (K.written sink.new) buffer.new }
     ensures troubles { TellsTroubles K.troubles result sink.old sink.new }
 {
     let mut year_text = Buffer::new();
@@ -39,8 +46,9 @@ fn write_civil<K: Sink>(sink: &mut K, year: u16, month: u8, day: u8) -> Result<(
     let month_text = month_text.format(month).as_bytes();
     let mut day_text = Buffer::new();
     let day_text = day_text.format(day).as_bytes();
-    write_pieces(
+    buffer_pieces(
         sink,
+        buffer,
         &[
             year_text,
             dash_before(month),
@@ -52,32 +60,39 @@ fn write_civil<K: Sink>(sink: &mut K, year: u16, month: u8, day: u8) -> Result<(
     )
 }
 
-/// Writes a date and the end of its line.
-fn write_date<K: Sink>(sink: &mut K, date: Date) -> Result<(), WriteFault>
+/// Adds a date and the end of its line.
+fn buffer_date<K: Sink>(
+    sink: &mut K,
+    buffer: &mut ReplyBuffer,
+    date: Date,
+) -> Result<(), WriteFault>
     requires { IsBetween (pos 0) (pos 2932896) (epoch_day date) }
-    ensures written { K.tells → Writes result (K.written sink.old)
-        (day_octets (number_of_day date) ++ codes "\n") (K.written sink.new) }
+    ensures written { K.tells → Buffers result (K.written sink.old) buffer.old
+        (day_octets (number_of_day date) ++ codes "\n") (K.written sink.new) buffer.new }
     ensures troubles { TellsTroubles K.troubles result sink.old sink.new }
 {
     let year = date.year().unsigned_abs();
     let month = date.month().unsigned_abs();
     let day = date.day().unsigned_abs();
-    write_civil(sink, year, month, day)
+    buffer_civil(sink, buffer, year, month, day)
 }
 
-/// Writes the due date of a record as `YYYY-MM-DD` and the LF. It is `never` where there is no due date, or one outside
+/// Adds the due date of a record as `YYYY-MM-DD` and the LF. It is `never` where there is no due date, or one outside
 /// the years 1970 to 9999.
-pub fn write_due<K: Sink>(sink: &mut K, due: Option<Date>) -> Result<(), WriteFault>
-    ensures written { K.tells →
-        Writes result (K.written sink.old) (due_octets (option_map epoch_day due) ++
-        codes "\n") (K.written sink.new) }
+pub fn buffer_due<K: Sink>(
+    sink: &mut K,
+    buffer: &mut ReplyBuffer,
+    due: Option<Date>,
+) -> Result<(), WriteFault>
+    ensures written { K.tells → Buffers result (K.written sink.old) buffer.old
+        (due_octets (option_map epoch_day due) ++ codes "\n") (K.written sink.new) buffer.new }
     ensures troubles { TellsTroubles K.troubles result sink.old sink.new }
 {
     let Some(date) = due else {
-        return write_all(sink, b"never\n");
+        return buffer_all(sink, buffer, b"never\n");
     };
     match told_date(date) {
-        Some(date) => write_date(sink, date),
-        None => write_all(sink, b"never\n"),
+        Some(date) => buffer_date(sink, buffer, date),
+        None => buffer_all(sink, buffer, b"never\n"),
     }
 }

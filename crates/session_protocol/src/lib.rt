@@ -3,11 +3,10 @@
 //! - `stream`: sources and sinks, which may fail, be interrupted, and move fewer octets than they are asked to;
 //! - `tally`: how their troubles are counted;
 //! - `lines`, `words`, `dates`, `requests`, `payload`: what is read, a line with its payloads at a time;
-//! - `reply`, `due_dates`: what is written;
+//! - `reply`, `due_dates`: what is written, and `buffer`, which holds it until a reply ends;
 //! - `commands`: what each command does at a registry, which is the desk of an office;
 //! - `items`: one line with its payloads, which is read and executed;
-//! - `input`, `output`: a source over a reader, which is read ahead, and a sink over a writer, for which the octets of a
-//!   line are held until it ends; both in a `window`;
+//! - `input`, `output`: a source over a reader, which is read ahead into a `window`, and a sink over a writer;
 //! - `memory`: a source and a sink for tests;
 //! - `session`: `serve`, whose contract relates the octets written to the octets read and to what the registry has
 //!   done;
@@ -18,6 +17,7 @@
 //! represents, and the octets of the answers.
 #![tactic(auto)]
 
+mod buffer;
 mod commands;
 mod dates;
 mod day;

@@ -190,16 +190,12 @@ impl MemorySink {
 }
 
 impl Sink for MemorySink {
-    ghost use Rattle.std.specs.Prelude.{ℕ, List, refl, []};
-    ghost use Rattle.std.proofs.Common.{sym};
-    ghost use Rattle.std.proofs.lemmas.List.{append-nil};
+    ghost use Rattle.std.specs.Prelude.{ℕ, List};
     ghost use Rattle.session_protocol.specs.Memory.{ends_interrupted, written_of};
 
     ghost tells = { Unit {0} };
 
     ghost written = { written_of };
-
-    ghost sent = { written_of };
 
     ghost troubles = { λ s. s.tally };
 
@@ -220,6 +216,4 @@ impl Sink for MemorySink {
         }
         Ok(self.tally.count_moved(count))
     }
-
-    ghost lines_are_sent = { λ s. ([], sym (append-nil (written_of s)), refl) };
 }

@@ -10,7 +10,7 @@ use desk_commands::Payload;
 use std::alloc::Global;
 
 /// How many octets are read at once.
-const PIECE: usize = 4096;
+const PIECE: usize = 1024;
 
 /// Reads `size` octets and drops them; false where the input ends before.
 fn skip<S: Source>(source: &mut S, size: usize) -> Result<bool, ReadFault>

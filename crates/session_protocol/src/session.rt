@@ -7,6 +7,7 @@ ghost use Rattle.session_protocol.specs.Session.{session_in, ending_octets, left
 ghost use Rattle.session_protocol.specs.Streams.{Rises, StreamFails, TellsTroubles, TriesOn};
 ghost use Rattle.session_protocol.specs.Written.{Writes};
 
+use crate::buffer::ReplyBuffer;
 use crate::items::{Reaction, SessionEnd, next};
 use crate::lines::LineBuffer;
 use crate::reply::write_reply;
@@ -45,7 +46,6 @@ fn write_ending<K: Sink>(sink: &mut K, ending: SessionEnd) -> Result<(), ServeFa
     ensures written { K.tells
         → Writes result (K.written sink.old) (ending_octets ending) (K.written sink.new) }
     ensures read { result ≢ Err ServeFault.Read }
-    ensures sent { K.tells → OnOk result (K.sent sink.new ≡ K.written sink.new) }
     ensures troubles { TellsTroubles K.troubles result sink.old sink.new }
 {
     if write_all(sink, ending_text(ending).as_bytes()).is_err() {
@@ -54,7 +54,8 @@ fn write_ending<K: Sink>(sink: &mut K, ending: SessionEnd) -> Result<(), ServeFa
     Ok(())
 }
 
-/// Serves a session: reads commands from a source, executes them at a registry, and writes their answers to a sink.
+/// Serves a session: reads commands from a source, executes them at a registry, and writes their answers to a sink. The
+/// answer of a command is written before the next one is read, and by one write where it has at most 4,096 octets.
 /// The session ends by `QUIT`, by the last command that it may have, by a line that is too long, by the end of the input
 /// or by a fault.
 ///
@@ -99,18 +100,18 @@ pub fn serve<S: Source, K: Sink, R: Registry>(
     ensures ending { S.tells → K.tells
         → result ≡ Ok tt → EndsByInput (session_in (S.left source.old)).ending
         → Rises (S.ends source.old) (S.ends source.new) }
-    ensures sent { K.tells → OnOk result (K.sent sink.new ≡ K.written sink.new) }
     ensures unread { S.tells → K.tells → result ≡ Ok tt
         → S.left source.new ≡ left_by 1000000 (S.left source.old) }
 {
     let mut line = LineBuffer::new();
+    let mut buffer = ReplyBuffer::new();
     for _ in 0..COMMANDS {
         let Ok(reaction) = next(alloc, source, registry, &mut line) else {
             return Err(ServeFault::Read);
         };
         match reaction {
             Reaction::Reply(reply) => {
-                if write_reply(sink, &reply).is_err() {
+                if write_reply(sink, &mut buffer, &reply).is_err() {
                     return Err(ServeFault::Write);
                 }
             }

@@ -4,10 +4,10 @@
 //! it claims to know its octets (`tells`). Every type can count failures, interruptions, and reads that met the end of
 //! the input. The program reads from the `Input` of the module `input`, and writes to the `Output` of `output`.
 
-ghost use Rattle.std.specs.Prelude.{◌≡◌, ℕ, Bool, List, ◌+◌, ◌<◌, ◌≤◌, ◌++◌, ◌∷◌, [], length, take, drop, IfOk, OnErr, IfSome, IfNone, true, Ok, None, max, flat_map};
+ghost use Rattle.std.specs.Prelude.{◌≡◌, ℕ, Bool, List, ◌+◌, ◌<◌, ◌≤◌, ◌++◌, ◌∷◌, [], length, take, drop, IfOk, OnErr, IfSome, IfNone, true, Ok, None, max};
 ghost use Rattle.session_protocol.specs.Streams.{Counts, CountsInARow, tells_end, fails_to_read, fails_to_write, is_interrupted, transfer_length, TellsEnd, TellsKind, TellsTroubles};
 ghost use Rattle.session_protocol.specs.declared.tally.Tally.{Tally};
-ghost use Rattle.session_protocol.specs.Written.{SendsLines, Writes};
+ghost use Rattle.session_protocol.specs.Written.{Writes};
 
 /// Why a call moved no octet.
 #[derive(Clone, Copy)]
@@ -61,11 +61,8 @@ pub trait Sink {
     /// Holds where the type knows its octets. Where it does not hold, nothing is claimed of them.
     ghost tells: { Type 0 };
 
-    /// The octets that were taken.
+    /// The octets that were taken. None of them is held back.
     ghost written: { Self → List ℕ };
-
-    /// Those that were sent to where the sink leads to. A line that has ended is among them.
-    ghost sent: { Self → List ℕ };
 
     /// How many writes failed, and how many were interrupted. One that took no octet of one or more has failed.
     ghost troubles: { Self → Tally };
@@ -87,8 +84,6 @@ pub trait Sink {
         ensures all { Counts (is_interrupted result) (troubles self.old).all_interruptions
             (troubles self.new).all_interruptions }
         ensures kind { TellsKind (was_interrupted self.new) result };
-
-    ghost lines_are_sent: { (s : Self) → SendsLines (sent s) (written s) };
 }
 
 /// A read that met trouble.
@@ -167,18 +162,6 @@ pub fn write_all<K: Sink>(sink: &mut K, octets: &[u8]) -> Result<(), WriteFault>
     let mut at = 0;
     while at < octets.len() {
         at += write_some(sink, &octets[at..])?;
-    }
-    Ok(())
-}
-
-/// Writes pieces, one after the other. After a fault some prefix of them all is written.
-pub fn write_pieces<K: Sink>(sink: &mut K, pieces: &[&[u8]]) -> Result<(), WriteFault>
-    ensures written { K.tells →
-        Writes result (K.written sink.old) (flat_map (λ p. p.now) pieces.now) (K.written sink.new) }
-    ensures troubles { TellsTroubles K.troubles result sink.old sink.new }
-{
-    for piece in pieces {
-        write_all(sink, *piece)?;
     }
     Ok(())
 }

@@ -1,6 +1,6 @@
-//! Octets in a buffer of a fixed size: put in behind, and taken from the front.
+//! Octets in a buffer of a fixed size: read all at once, and taken from the front.
 
-ghost use Rattle.std.specs.Prelude.{◌≡◌, ◌<◌, ◌≤◌, ◌++◌, [], length, take, drop, min, IsTrue, ◌↔◌, OnOk, OnErr, IfSome};
+ghost use Rattle.std.specs.Prelude.{◌≡◌, ◌<◌, ◌≤◌, [], length, take, drop, min, IsTrue, ◌↔◌, OnOk, OnErr};
 ghost use Rattle.std.specs.Io.KnownBytes.{Consumes, IsAtEnd, Keeps};
 
 use std::io::{self, Read};
@@ -76,44 +76,12 @@ impl<const N: usize> Window<N> {
         Ok(())
     }
 
-    /// Puts octets in as far as there is room behind, and answers how many.
-    pub fn put(&mut self, octets: &[u8]) -> usize
-        ensures within { result ≤ length octets.now }
-        ensures added { self.new ≡ self.old ++ take result octets.now }
-    {
-        let count = octets.len().min(N - self.end);
-        let room = &mut self.octets[..];
-        room[self.end..self.end + count].copy_from_slice(&octets[..count]);
-        self.end += count;
-        count
-    }
-
-    /// A buffer with these octets and others behind them; none where there is no room for all.
-    pub fn joined(&self, octets: &[u8]) -> Option<Window<N>>
-        ensures { IfSome result (λ both. both ≡ self.now ++ octets.now) }
-    {
-        let mut both = Window {
-            octets: self.octets,
-            start: self.start,
-            end: self.end,
-        };
-        if both.put(octets) == octets.len() {
-            Some(both)
-        } else {
-            None
-        }
-    }
-
-    /// Lets the first `count` octets go. There is room for `N` octets once none is left.
-    pub fn release(&mut self, count: usize)
+    /// Lets the first `count` octets go.
+    fn release(&mut self, count: usize)
         requires { count ≤ length self.old }
         ensures { self.new ≡ drop count self.old }
     {
         self.start += count;
-        if self.start >= self.end {
-            self.start = 0;
-            self.end = 0;
-        }
     }
 
     /// Takes as many octets from the front as there are and as fit `room`, and answers how many.

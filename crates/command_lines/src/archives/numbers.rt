@@ -71,7 +71,7 @@ fn no_numbers(alloc: Global, word: &str) -> Result<String, AllocError> {
             format!(in alloc; "{word}: a range begins with its smaller number; type {first}-{last}")
         }
         _ => format!(in alloc;
-            "{}: neither a number of a record, as 3, nor a range of numbers, as 5-9",
+            "{}: neither a number of a record, as 3, nor a range of numbers, as 5-9; of a volume as 3/17 and 3/5-9",
             seen(word)
         ),
     }

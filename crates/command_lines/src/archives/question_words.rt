@@ -8,7 +8,9 @@ pub const NUMBERS: Word = Word {
     form: Form::Places,
     value: "NUMBER",
     is_required: false,
-    help: Some("The records with these numbers, as 3, or in these ranges, as 5-9"),
+    help: Some(
+        "The records with these numbers, as 3, or in these ranges, as 5-9; of a volume as 3/17 and 3/5-9",
+    ),
     ..PLACE
 };
 

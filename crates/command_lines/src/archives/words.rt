@@ -16,7 +16,7 @@ pub const STORE: Word = Word {
     name: "store",
     value: "FILE",
     is_required: true,
-    help: Some("The file of the store"),
+    help: Some("The file of the store, or the folder of its volumes"),
     ..OPTION
 };
 
@@ -24,7 +24,19 @@ pub const PLAN_FILE: Word = Word {
     name: "plan",
     value: "PLAN",
     is_required: true,
+    substitute: Some("adopt"),
     help: Some("The file of the plan"),
+    conflict: Some("adopt"),
+    ..OPTION
+};
+
+/// A store that becomes the first volume of a new one.
+pub const ADOPT: Word = Word {
+    name: "adopt",
+    value: "FILE",
+    help: Some(
+        "With --roll: moves the store in this file, which keeps its plan and its history, to the folder as its first volume",
+    ),
     ..OPTION
 };
 
@@ -42,7 +54,7 @@ const CREATE: Subcommand = Subcommand {
     name: "create",
     about: "Makes a new store with a plan, in a file that only its owner may read and write",
     example: "Example: mailfile-store create --store records.db --plan plan.toml",
-    words: &[STORE, PLAN_FILE, ROLL, BY, REASON],
+    words: &[STORE, PLAN_FILE, ROLL, ADOPT, BY, REASON],
     has_shared: false,
 };
 

@@ -1,4 +1,4 @@
-use Rattle.std.proofs.Common.{◌≡◌, ◌∙◌, [], ap, subst}
+use Rattle.std.proofs.Common.{◌≡◌, ◌∙◌, [], Bool, ap, not, subst, sym}
 use Rattle.record_archive.specs.Archive.{Archive}
 use Rattle.record_ledger.specs.Ledgers.{keeper_of, kept_archive}
 use Rattle.cli_console.proofs.Noted.{has_singles}
@@ -7,7 +7,8 @@ use Rattle.cli_changes.specs.Holdings.{changed_numbers, changed_on, hold_command
 use Rattle.cli_changes.specs.Series.{IsTriedOn, StopsIn}
 use Rattle.cli_changes.proofs.ChangeLaws.{all_first, hold_as, hold_changes, hold_stops, none_changed}
 use Rattle.cli_changes.proofs.HoldLaws.{hold_is_each}
-use Rattle.cli_changes.proofs.SeriesLaws.{on_err}
+use Rattle.cli_changes.proofs.LookingLaws.{none_missing}
+use Rattle.cli_changes.proofs.SeriesLaws.{on_err, or_first}
 use Rattle.cli_changes.proofs.holds.hold_found.Given.{Over}
 use Rattle.cli_changes.proofs.holds.hold_found.Goals.{After-as_slice-2, In_ok-changed}
 use Rattle.cli_changes.proofs.holds.hold_found.Goals as goal
@@ -62,22 +63,31 @@ returns-clause-done g c = λ clean (a : Archive) s.
     let at = (goal.at.returns-clause-done g c).In_ok-changed in
     let then = c.end_in.ensures.reads.falls clean in
     let hold = c.args.hold.now in
+    let refused = c.in_ok-changed.changed.is_refused in
+    let all = c.in_ok-is_all_found.is_all_found in
+    let missing = missing_of c.meant_of.new.search in
     let made = changed_on hold.change hold.name.now in
     let numbers = changed_numbers hold.change hold.name.now (found_in c.args.choice.now c.args.questions.now a) in (
       c.end_in.ensures.reads.stands (made numbers a) (changed g at then a s),
       hold_as ((keeper_of g.S.Store).stands c.change_each.new.archive) a (kept_archive g.S.Store c.args.archive.now.kept a s) hold.change
           hold.name.now c.args.choice.now c.args.questions.now
           (record {
-            changed = c.in_ok-changed.changed;
+            changed = c.with_missing.result;
             passed = c.in_ok-meant.meant.passed;
             destroyed = c.in_ok-meant.meant.destroyed;
-          }) (tried g at then a s) (each_found g at c.in_ok-end_in.ensures.found then a s),
+          }) refused (λ none. or_first refused (not all) (sym c.with_missing.ensures.refused ∙ none))
+          (subst (λ (any : Bool). IsTriedOn ((keeper_of g.S.Store).stands c.change_each.new.archive)
+          (hold_command hold.change hold.name.now)
+          (meant_numbers hold.change hold.name.now c.args.choice.now.numbers.items (found_in c.args.choice.now c.args.questions.now a)) a
+          any refused) (sym c.with_missing.ensures.any) (tried g at then a s))
+          (λ none. each_found g at (none_missing refused all c.with_missing.result.is_refused missing c.with_missing.ensures.refused none
+          (c.in_ok-is_all_found.ensures missing c.end_in.ensures.found)) then a s),
     )
 
-pub returns-in_err-end_in-clause-failed : goal.returns-in_err-end_in-clause-failed
-returns-in_err-end_in-clause-failed g c =
-    let at = (goal.at.returns-in_err-end_in-clause-failed g c).In_ok-changed in
-    on_err c.from_residual-in_err-end_in.result _ (λ clean (a : Archive) s.
+pub returns-in_err-is_all_found-clause-failed : goal.returns-in_err-is_all_found-clause-failed
+returns-in_err-is_all_found-clause-failed g c =
+    let at = (goal.at.returns-in_err-is_all_found-clause-failed g c).In_ok-changed in
+    on_err c.from_residual-in_err-is_all_found.result _ (λ clean (a : Archive) s.
     let hold = c.args.hold.now in
     let made = changed_on hold.change hold.name.now in
     let numbers = changed_numbers hold.change hold.name.now (found_in c.args.choice.now c.args.questions.now a) in

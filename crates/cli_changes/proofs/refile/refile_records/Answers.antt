@@ -92,6 +92,13 @@ returns-in_err-moves-clause-failed g c =
     none_changed ((keeper_of g.S.Store).stands c.moves_shown.new.archive) (λ n b. refile b n to) (moved_to to) (refile_is_each to)
     (moving_numbers to (found_in c.args.choice.now c.args.questions.now a)) a (c.moves_shown.ensures.reads.stands a s))
 
+pub returns-in_err-day-clause-failed : goal.returns-in_err-day-clause-failed
+returns-in_err-day-clause-failed g c =
+    on_err c.from_residual-in_err-day.result _ (λ clean (a : Archive) s.
+    let to = c.args.refiling.to.now in
+    none_changed ((keeper_of g.S.Store).stands c.args.ledger.now) (λ n b. refile b n to) (moved_to to) (refile_is_each to)
+    (moving_numbers to (found_in c.args.choice.now c.args.questions.now a)) a s)
+
 pub returns-in_err-judge_refiling-clause-failed : goal.returns-in_err-judge_refiling-clause-failed
 returns-in_err-judge_refiling-clause-failed g c =
     on_err c.from_residual.result _ (λ clean (a : Archive) s.

@@ -16,4 +16,4 @@ returns g c =
     c.in_ok-author.author c.lend.result (for_hold hold.change)
     (λ (t : HoldTally) (old new : Ledger g.row.A-Kept.Denot LibcRuntime) (seals : Seals).
     HoldsFound g.A.Kept.Store old new (Ok t) hold.change hold.name.now c.args.choice.now c.args.questions.now)
-    c.in_ok-author.ensures c.lend.ensures
+    c.in_ok-author.ensures.told c.lend.ensures

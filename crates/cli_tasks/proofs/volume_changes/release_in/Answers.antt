@@ -14,4 +14,4 @@ returns g c =
     c.in_ok-author.author c.lend.result Ending
     (λ (old new : Ledger g.row.A-Kept.Denot LibcRuntime) (seals : Seals).
     EndsListed g.A.Kept.Store old new well c.args.name.now c.args.numbers.now)
-    c.in_ok-author.ensures c.lend.ensures
+    c.in_ok-author.ensures.told c.lend.ensures

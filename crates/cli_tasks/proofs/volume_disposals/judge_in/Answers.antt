@@ -14,4 +14,4 @@ returns g c =
     c.in_ok-author.author c.lend.result Ending
     (λ (old new : Ledger g.row.A-Kept.Denot LibcRuntime) (seals : Seals).
     JudgesDisposal g.A.Kept.Store old new true c.args.asked.now c.args.day seals)
-    c.in_ok-author.ensures c.lend.ensures
+    c.in_ok-author.ensures.told c.lend.ensures

@@ -1,5 +1,6 @@
 use Rattle.std.proofs.Common.{All, subst}
 use Rattle.std.proofs.lemmas.Result.{on_ok_weaker}
+use Rattle.cli_tasks.specs.Endings.{JudgesWhereAny}
 use Rattle.cli_tasks.specs.Refiles.{MovesEach, RefilesWhereAny}
 use Rattle.cli_tasks.proofs.volume_refilings.refile.Goals as goal
 
@@ -24,7 +25,8 @@ returns g c =
       listed = c.in_ok-tally.field-0.listed.items;
       shown = subst (λ to. MovesEach store IsAt folder to typed questions last c.in_ok-tally.field-0.tally
           c.in_ok-tally.field-0.listed.items) same c.in_ok-tally.ensures;
+      judged = subst (λ ls. All (JudgesWhereAny store IsAt folder told) ls) c.as_slice-listed.ensures.value c.in_ok-judge_endings.ensures;
       refiled = subst (λ to. All (RefilesWhereAny store IsAt folder told to typed questions) c.in_ok-tally.field-0.listed.items) same
-          (subst (λ ls. All (RefilesWhereAny store IsAt folder told c.as_bytes.result.now typed questions) ls) c.as_slice.ensures.value
+          (subst (λ ls. All (RefilesWhereAny store IsAt folder told c.as_bytes.result.now typed questions) ls) c.as_slice-listed.ensures.value
           c.in_ok-refile_each.ensures);
     }) c.judge_refused.ensures

@@ -15,4 +15,4 @@ returns g c =
     c.in_ok-author.author c.lend.result Ending
     (λ (old new : Ledger g.row.A-Kept.Denot LibcRuntime) (seals : Seals).
     RefilesFound g.A.Kept.Store old new well asked.to.now c.args.numbers.now asked.choice.now asked.questions.now)
-    c.in_ok-author.ensures c.lend.ensures
+    c.in_ok-author.ensures.told c.lend.ensures

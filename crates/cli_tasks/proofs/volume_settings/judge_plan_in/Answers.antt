@@ -14,4 +14,4 @@ returns g c =
     told_for g.A.Kept.Store (g.A.Archives.is_at c.args.archives.now (path_of c.args.volumes.folder.now c.args.volume)) c.args.told.now
     c.in_ok-author.author c.lend.result (λ (before : Store g.row.A-Kept.Denot). for_plan before.plan c.args.plan.now)
     (λ (old new : Ledger g.row.A-Kept.Denot LibcRuntime) (seals : Seals). JudgesPlan g.A.Kept.Store old new well c.args.plan.now)
-    c.in_ok-author.ensures c.lend.ensures
+    c.in_ok-author.ensures.told c.lend.ensures

@@ -20,6 +20,7 @@ loop-init g c = record {
     heard = λ s. refl;
     said = λ k. sym (append-nil _);
   };
+  empty = cc;
   unread = λ s. refl;
   ends = omega arith;
   reads_over = omega arith;
@@ -46,6 +47,7 @@ loop-preserved g c =
       doing =
           do_more c.loop.invariant.doing a.0 (answer_of c.in-Reply.reply) _ _ _ c.write_reply.result c.loop-test.true a.1 a.2
           c.write_reply.ensures.written wrote;
+      empty = outlasted c.write_reply.result c.write_reply.ensures.empty wrote;
       unread = λ s. c.loop.invariant.unread s ∙ left_more c.loop.counter _ a.0 _ c.loop-test.true (a.2 s);
       ends = omega (arith, c.next.ensures.ends.rises);
       reads_over = omega (arith, c.in-Ok.ensures.troubles.over, c.loop.invariant.reads_over);

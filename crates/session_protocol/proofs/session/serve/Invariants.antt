@@ -1,4 +1,4 @@
-use Rattle.std.proofs.Common.{◌≡◌, ◌-◌, ◌≤◌}
+use Rattle.std.proofs.Common.{[], ◌≡◌, ◌-◌, ◌≤◌}
 use Rattle.desk_commands.specs.Calls.{Calls}
 use Rattle.session_protocol.specs.Session.{session_of, left_by}
 use Rattle.session_protocol.proofs.Served.{Doing}
@@ -10,6 +10,7 @@ invariant-loop g l = record {
   doing : Doing (Calls g.R.Registry.keeper) g.S.Source.tells g.K.Sink.tells l.counter
       (session_of 1000000 (g.S.Source.left l.fn.source)) l.fn.registry
       (g.K.Sink.written l.fn.sink) (g.S.Source.left l.source) l.registry (g.K.Sink.written l.sink);
+  empty : l.buffer ≡ [];
   unread : g.S.Source.tells → left_by 1000000 (g.S.Source.left l.fn.source) ≡ left_by (1000000 - l.counter) (g.S.Source.left l.source);
   ends : g.S.Source.ends l.fn.source ≤ g.S.Source.ends l.source;
   reads_over : (g.S.Source.troubles l.source).interruptions ≤ (g.S.Source.troubles l.fn.source).interruptions;

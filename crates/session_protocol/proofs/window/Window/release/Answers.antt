@@ -3,8 +3,8 @@ use Rattle.std.proofs.lemmas.Grind.{common_steps}
 use Rattle.session_protocol.proofs.WindowLemmas.{part_left, part_length}
 use Rattle.session_protocol.proofs.window.Window.release.Goals as goal
 
-pub returns-else-self : goal.returns-else-self
-returns-else-self g c =
+pub returns : goal.returns
+returns g c =
     let octets = c.self.inside.octets in
     let start = c.self.inside.start in
     let end = c.self.inside.end in

@@ -1,7 +1,0 @@
-use Rattle.cli_tasks.specs.Settings.{OpensHistoryIn}
-use Rattle.cli_tasks.specs.Works.{EachVolume}
-use Rattle.cli_tasks.proofs.volume_settings.judge_histories.Given as goal
-
-abbrev pub invariant-loop-below : goal.invariant-loop-below
-invariant-loop-below g l =
-    EachVolume l.below (OpensHistoryIn g.A.Kept.Store (g.A.Archives.is_at l.fn.archives) l.fn.volumes.folder.now)

@@ -1,0 +1,118 @@
+//! That each volume of an archive goes on from the one before, which is judged before records of any can be destroyed.
+
+use crate::archives::{Archives, Work};
+use crate::volume_checks::{Marks, alone_words, broken_words};
+use crate::volume_row::Volumes;
+use cli_console::{Failure, Status};
+use cli_history::{Beginning, beginning_in, open_history};
+use record_noted::Opened;
+use record_store::Store;
+use sqlite::{Alter, Connection};
+
+/// What the history of a volume says of the volumes beside it.
+#[derive(Drop)]
+struct Link {
+    /// How it begins.
+    beginning: Beginning,
+    /// Whether no event of it has the mark after which the next volume began.
+    lacks_next: bool,
+}
+
+/// Reads how the history of a volume begins, and whether it has the mark after which the next volume began, where that names one.
+#[derive(Drop)]
+struct ReadLink<'m> {
+    next: Option<&'m [u8]>,
+}
+
+impl ReadLink<'_> {
+    /// Whether no event of a store has the mark. The connection is handed back.
+    fn lacks_next<S: Alter>(
+        &self,
+        rt: &HostRuntime,
+        archive: Store<S>,
+    ) -> (Connection<S>, Result<bool, Failure>) {
+        let marks = Marks {
+            head: None,
+            next: self.next,
+        };
+        match open_history(rt, archive) {
+            Ok(Opened::Noted(noted)) => {
+                let mut noted = noted;
+                let met = marks.look_in(rt, &mut noted);
+                let lacks_next = met.map(|met| met.lacks_next);
+                (noted.into_store().into_connection(), lacks_next)
+            }
+            Ok(Opened::Plain(archive)) => {
+                (archive.into_connection(), Ok(marks.nowhere().lacks_next))
+            }
+            Err((archive, failure)) => (archive.into_connection(), Err(failure)),
+        }
+    }
+}
+
+impl Work for ReadLink<'_> {
+    type Answer = Link;
+
+    fn work<S: Alter>(
+        self,
+        rt: &HostRuntime,
+        archive: Store<S>,
+    ) -> (Connection<S>, Result<Link, Failure>) {
+        let mut archive = archive;
+        let beginning = match beginning_in(rt, &mut archive) {
+            Ok(beginning) => beginning,
+            Err(failure) => return (archive.into_connection(), Err(failure)),
+        };
+        let (connection, lacks_next) = self.lacks_next(rt, archive);
+        match lacks_next {
+            Ok(lacks_next) => {
+                let link = Link {
+                    beginning,
+                    lacks_next,
+                };
+                (connection, Ok(link))
+            }
+            Err(failure) => (connection, Err(failure)),
+        }
+    }
+}
+
+/// How the mark begins after which the history of a volume began, where that names one. `BadData` where one of the volumes beside it may be
+/// of another archive: where it lacks the mark after which the next one began, or is not the first and names no mark.
+fn judge_link(rt: &HostRuntime, volume: u32, link: Link) -> Result<Option<Vec<u8>>, Failure> {
+    let Link {
+        beginning,
+        lacks_next,
+    } = link;
+    if lacks_next {
+        return Err(Failure::shown(Status::BadData, broken_words(rt.alloc(), volume)));
+    }
+    match beginning {
+        Beginning::Nowhere => Ok(None),
+        Beginning::After(mark) => Ok(Some(mark)),
+        Beginning::Alone => {
+            if volume > 1 {
+                return Err(Failure::shown(Status::BadData, alone_words(rt.alloc(), volume)));
+            }
+            Ok(None)
+        }
+    }
+}
+
+/// Finds that each volume goes on from the one before, as `check` does, from the last one down: of each that has a history. Else `BadData`.
+pub fn judge_chain<A: Archives>(
+    rt: &HostRuntime,
+    archives: &A,
+    volumes: Volumes<'_>,
+) -> Result<(), Failure> {
+    let mut next: Option<Vec<u8>> = None;
+    for later in 0..volumes.last {
+        let volume = volumes.last - later;
+        let work = ReadLink {
+            next: next.as_ref().map(|mark| mark.as_slice()),
+        };
+        let link = volumes.lend(rt, archives, volume, work)?;
+        next = judge_link(rt, volume, link)?;
+    }
+    Ok(())
+}
