@@ -7,7 +7,6 @@ use crate::numbers::TypedNumbers;
 use jiff::civil::Date;
 
 /// Which records a command is about, as it is typed: those that meet each condition that is given.
-#[derive(Drop)]
 pub struct Choice<'a> {
     /// With one of these numbers, where there are any.
     pub numbers: Vec<TypedNumbers>,
@@ -34,6 +33,26 @@ pub struct Choice<'a> {
     pub recipient: Option<&'a str>,
     /// With a message whose subject has this text.
     pub subject: Option<&'a str>,
+}
+
+impl Drop for Choice<'_> {
+    fn drop(self) {
+        let Choice {
+            numbers: _,
+            from: _,
+            class: _,
+            due: _,
+            since: _,
+            until: _,
+            is_held: _,
+            is_live: _,
+            is_destroyed: _,
+            test: _,
+            sender: _,
+            recipient: _,
+            subject: _,
+        } = self;
+    }
 }
 
 impl Choice<'_> {

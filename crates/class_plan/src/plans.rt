@@ -27,11 +27,20 @@ pub(crate) struct Class {
 
 /// A plan of at most 4,096 classes. The class `unfiled` is always among them, and open. The parent
 /// of each class is one of them, and the count of each schedule is in its unit's range.
-#[derive(Drop)]
 pub struct Plan {
     pub(crate) alloc: Global,
     pub(crate) root: Schedule,
     pub(crate) classes: BTreeMap<Vec<u8>, Class>,
+}
+
+impl Drop for Plan {
+    fn drop(self) {
+        let Plan {
+            alloc: _,
+            root: _,
+            classes: _,
+        } = self;
+    }
 }
 
 impl Model for Plan {

@@ -31,7 +31,6 @@ use tool_texts::{Shown, put};
 pub(crate) const HEADERS_PAGE: usize = 250;
 
 /// A search for the records of a choice, by number.
-#[derive(Drop)]
 pub struct Search<'s, 'a> {
     typed: &'s Choice<'a>,
     questions: &'s Questions,
@@ -44,6 +43,20 @@ pub struct Search<'s, 'a> {
     found: Vec<u32>,
     /// The records that may have been found, had all their fields been read, as words of a command line.
     unread: Vec<TypedNumbers>,
+}
+
+impl Drop for Search<'_, '_> {
+    fn drop(self) {
+        let Search {
+            typed: _,
+            questions: _,
+            choice: _,
+            from: _,
+            last: _,
+            found: _,
+            unread: _,
+        } = self;
+    }
 }
 
 /// That a class is none of a plan, and which one was meant, perhaps.

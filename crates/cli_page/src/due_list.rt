@@ -24,7 +24,6 @@ enum Ruling {
 }
 
 /// A record that is due.
-#[derive(Drop)]
 struct Item {
     /// The number of its volume, in an archive of volumes.
     volume: Option<u32>,
@@ -37,6 +36,21 @@ struct Item {
     holds: Vec<Vec<u8>>,
     /// What its message's header says, each text cut to 80 columns.
     headers: Option<Headers>,
+}
+
+impl Drop for Item {
+    fn drop(self) {
+        let Item {
+            volume: _,
+            number: _,
+            path: _,
+            day: _,
+            due: _,
+            ruling: _,
+            holds: _,
+            headers: _,
+        } = self;
+    }
 }
 
 /// What is due by the day, in the order of the records' numbers.

@@ -18,10 +18,15 @@ struct Stretch {
 }
 
 /// The holds of an archive, in byte order of their names, each with the records that it keeps.
-#[derive(Drop)]
 pub struct Holds {
     alloc: Global,
     holds: BTreeMap<Vec<u8>, Vec<Stretch>>,
+}
+
+impl Drop for Holds {
+    fn drop(self) {
+        let Holds { alloc: _, holds: _ } = self;
+    }
 }
 
 impl Stretch {

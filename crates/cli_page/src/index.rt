@@ -41,7 +41,6 @@ pub struct IndexHeading<'a> {
 }
 
 /// What an index has of a message.
-#[derive(Drop)]
 struct Letter {
     /// The number of its file.
     file: u32,
@@ -53,8 +52,18 @@ struct Letter {
     sender: String,
 }
 
+impl Drop for Letter {
+    fn drop(self) {
+        let Letter {
+            file: _,
+            headers: _,
+            moment: _,
+            sender: _,
+        } = self;
+    }
+}
+
 /// A record in an index.
-#[derive(Drop)]
 struct Row {
     /// The number of its volume, in an archive of volumes.
     volume: Option<u32>,
@@ -65,6 +74,20 @@ struct Row {
     is_destroyed: bool,
     /// None where it is destroyed, and where its message is not the one that was captured.
     letter: Option<Letter>,
+}
+
+impl Drop for Row {
+    fn drop(self) {
+        let Row {
+            volume: _,
+            number: _,
+            path: _,
+            day: _,
+            due: _,
+            is_destroyed: _,
+            letter: _,
+        } = self;
+    }
 }
 
 /// The index of an export. Its memory grows with the number of records, and not with their messages: of each it has a

@@ -15,7 +15,6 @@ pub struct ClassCounts {
 
 /// The counts of all classes, of all records together, and of the years in which live records fall due. The counts by years
 /// always add up to the number of live records with a due date.
-#[derive(Drop)]
 pub struct Tally {
     /// The day of the report, counted from 1970-01-01.
     pub(crate) day: u32,
@@ -24,4 +23,15 @@ pub struct Tally {
     pub(crate) classes: Vec<ClassCounts>,
     pub(crate) years: Years,
     ghost dated: { in_years years.years.items ≡ all.dated },
+}
+
+impl Drop for Tally {
+    fn drop(self) {
+        let Tally {
+            day: _,
+            all: _,
+            classes: _,
+            years: _,
+        } = self;
+    }
 }

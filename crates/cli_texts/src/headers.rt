@@ -20,7 +20,6 @@ const COLUMNS: usize = 80;
 
 /// Texts of a message's header as people read them (see `mail_display::display`). Each may have any characters, and is
 /// empty where the message has no such field.
-#[derive(Drop)]
 pub struct Headers {
     /// Of the first From, or else of the first Sender.
     pub sender: String,
@@ -28,6 +27,16 @@ pub struct Headers {
     pub subject: String,
     /// Of the first Date. It need not be a date.
     pub date: String,
+}
+
+impl Drop for Headers {
+    fn drop(self) {
+        let Headers {
+            sender: _,
+            subject: _,
+            date: _,
+        } = self;
+    }
 }
 
 /// What is listed of the header of a record's message.

@@ -26,7 +26,6 @@ use std::rc::Rc;
 /// Names are compared octet by octet. Each call takes time logarithmic in the number of officers.
 ///
 /// Images that are kept are no part of what contracts see.
-#[derive(Drop)]
 pub struct Officers {
     alloc: Global,
     globals: Shelf,
@@ -34,6 +33,18 @@ pub struct Officers {
     profiles: BTreeMap<Vec<u8>, Profile>,
     /// The script that a message was last filed by, until a global script is set.
     filed: Option<FiledScript>,
+}
+
+impl Drop for Officers {
+    fn drop(self) {
+        let Officers {
+            alloc: _,
+            globals: _,
+            edition: _,
+            profiles: _,
+            filed: _,
+        } = self;
+    }
 }
 
 impl Model for Officers {

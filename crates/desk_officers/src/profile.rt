@@ -35,11 +35,20 @@ pub(crate) struct KeptImage {
 }
 
 /// An officer's program and scripts, and the image that was last pinned for them.
-#[derive(Drop)]
 pub(crate) struct Profile {
     pub active: Active,
     pub scripts: Shelf,
     pub kept: Option<KeptImage>,
+}
+
+impl Drop for Profile {
+    fn drop(self) {
+        let Profile {
+            active: _,
+            scripts: _,
+            kept: _,
+        } = self;
+    }
 }
 
 /// Puts a script on a shelf, in the place of the one that has the name. This is `Shelf::put`, told in the meanings of

@@ -12,7 +12,6 @@ use std::marker::Model;
 
 /// The image of a filing program. Contracts see the program: its budget in steps, its texts, numbers and slots, in
 /// version 2 the first place of each of its procedures, and its code.
-#[derive(Drop)]
 pub struct Image {
     budget: u32,
     texts: Vec<Vec<u8>>,
@@ -21,6 +20,19 @@ pub struct Image {
     /// The first place of each procedure; some in version 2 alone.
     first_places: Option<Vec<u16>>,
     code: Vec<Operation>,
+}
+
+impl Drop for Image {
+    fn drop(self) {
+        let Image {
+            budget: _,
+            texts: _,
+            numbers: _,
+            slots: _,
+            first_places: _,
+            code: _,
+        } = self;
+    }
 }
 
 impl Model for Image {

@@ -79,10 +79,18 @@ fn leave_out(stores: &mut Vec<StoreKnown>, volume: Option<u32>)
 }
 
 /// The messages that are captured already: those that stores have, and those that were captured since.
-#[derive(Drop)]
 pub struct AllKnown {
     stores: Vec<StoreKnown>,
     captured: BTreeMap<SealKey, FirstRecord>,
+}
+
+impl Drop for AllKnown {
+    fn drop(self) {
+        let AllKnown {
+            stores: _,
+            captured: _,
+        } = self;
+    }
 }
 
 impl AllKnown {

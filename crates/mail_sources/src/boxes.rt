@@ -56,13 +56,23 @@ fn read_line(reader: &mut BufReader<File>, line: &mut Vec<u8>) -> io::Result<()>
 }
 
 /// The messages of an mbox in a file.
-#[derive(Drop)]
 pub struct BoxReader {
     reader: BufReader<File>,
     /// None at the end of the file.
     splitter: Option<MessageSplitter>,
     line: Vec<u8>,
     undated: UndatedLines,
+}
+
+impl Drop for BoxReader {
+    fn drop(self) {
+        let BoxReader {
+            reader: _,
+            splitter: _,
+            line: _,
+            undated: _,
+        } = self;
+    }
 }
 
 impl BoxReader {

@@ -13,7 +13,6 @@ use sqlite::{Alter, Connection};
 use std::alloc::Global;
 
 /// Messages, records and holds, in the order of their keys.
-#[derive(Drop)]
 pub(crate) struct ArchiveRows {
     pub(crate) records: Vec<RecordRow>,
     /// The numbers of the messages.
@@ -21,12 +20,31 @@ pub(crate) struct ArchiveRows {
     pub(crate) holds: Vec<HoldRow>,
 }
 
+impl Drop for ArchiveRows {
+    fn drop(self) {
+        let ArchiveRows {
+            records: _,
+            messages: _,
+            holds: _,
+        } = self;
+    }
+}
+
 /// The rows of all tables that both versions have, in the order of their keys.
-#[derive(Drop)]
 pub(crate) struct CommonRows {
     pub(crate) settings: Vec<SettingRow>,
     pub(crate) classes: Vec<ClassRow>,
     pub(crate) archive: ArchiveRows,
+}
+
+impl Drop for CommonRows {
+    fn drop(self) {
+        let CommonRows {
+            settings: _,
+            classes: _,
+            archive: _,
+        } = self;
+    }
 }
 
 /// Reads the rows of the tables that both versions have.

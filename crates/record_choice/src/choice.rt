@@ -29,7 +29,6 @@ pub enum Holder {
 }
 
 /// Which records a command is about: those for which all that is asked holds.
-#[derive(Drop)]
 pub struct Choice {
     /// With one of these numbers.
     pub numbers: Option<Vec<Span>>,
@@ -47,6 +46,21 @@ pub struct Choice {
     pub until: Option<Date>,
     /// Live, and due on this day or before.
     pub due: Option<Date>,
+}
+
+impl Drop for Choice {
+    fn drop(self) {
+        let Choice {
+            numbers: _,
+            class: _,
+            is_live: _,
+            is_destroyed: _,
+            held: _,
+            since: _,
+            until: _,
+            due: _,
+        } = self;
+    }
 }
 
 /// Whether what stands after a class in a path is nothing, or begins with a "/".

@@ -51,7 +51,7 @@ fn judge(plan: &Plan, entry: RecordEntry, day: Date) -> Option<Reason>
         return Some(Reason::Destroyed);
     }
     if has_any(entry.holds.as_slice()) {
-        return Some(Reason::Held(entry.holds));
+        return Some(Reason::Held(entry.into_holds()));
     }
     let schedule = plan.schedule_of(entry.path.as_slice());
     if !destroys(schedule) {

@@ -22,7 +22,6 @@ use sqlite::{Alter, Connection};
 use std::alloc::Global;
 
 /// The rows of an archive, of which the messages are given by their numbers, and the due days of its records.
-#[derive(Drop)]
 pub(crate) struct SourceRows {
     pub(crate) records: Vec<RecordRow>,
     /// The numbers of the messages.
@@ -30,6 +29,17 @@ pub(crate) struct SourceRows {
     /// The holds in the order in which they were placed.
     pub(crate) holds: Vec<HoldRow>,
     pub(crate) dues: Vec<DueRow>,
+}
+
+impl Drop for SourceRows {
+    fn drop(self) {
+        let SourceRows {
+            records: _,
+            messages: _,
+            holds: _,
+            dues: _,
+        } = self;
+    }
 }
 
 /// Reads the rows of an archive with a plan.

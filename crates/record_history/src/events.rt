@@ -23,10 +23,18 @@ pub struct Filing<'a> {
 
 /// A plan as it is written: the root's schedule, and for each class its path, whether it is open, and its own schedule, if
 /// it has one.
-#[derive(Drop)]
 pub struct Listing<'a> {
     pub root: Schedule,
     pub classes: Vec<(&'a [u8], bool, Option<Schedule>)>,
+}
+
+impl Drop for Listing<'_> {
+    fn drop(self) {
+        let Listing {
+            root: _,
+            classes: _,
+        } = self;
+    }
 }
 
 impl<'a> Listing<'a> {

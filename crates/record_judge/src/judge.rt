@@ -36,12 +36,22 @@ pub enum Flaw {
 }
 
 /// The judge of a history, which takes its rows one by one. It takes memory for each record, message and hold.
-#[derive(Drop)]
 pub struct Judge {
     pub(crate) alloc: Global,
     pub(crate) archive: SealedArchive,
     pub(crate) next: u64,
     pub(crate) mark: Vec<u8>,
+}
+
+impl Drop for Judge {
+    fn drop(self) {
+        let Judge {
+            alloc: _,
+            archive: _,
+            next: _,
+            mark: _,
+        } = self;
+    }
 }
 
 fn flaw_of(misdeed: Misdeed) -> Flaw

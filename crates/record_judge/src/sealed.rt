@@ -40,7 +40,6 @@ pub struct NamedHold {
 }
 
 /// An archive with the seal of each message in its place.
-#[derive(Drop)]
 pub struct SealedArchive {
     pub(crate) alloc: Global,
     pub(crate) plan: Plan,
@@ -53,6 +52,22 @@ pub struct SealedArchive {
     pub(crate) hold_index: HoldIndex,
     /// The number of the next record.
     pub(crate) next: u64,
+}
+
+impl Drop for SealedArchive {
+    fn drop(self) {
+        let SealedArchive {
+            alloc: _,
+            plan: _,
+            messages: _,
+            message_index: _,
+            records: _,
+            record_index: _,
+            holds: _,
+            hold_index: _,
+            next: _,
+        } = self;
+    }
 }
 
 impl SealedArchive {

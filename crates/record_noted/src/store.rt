@@ -15,7 +15,6 @@ use sqlite::Alter;
 use std::alloc::Global;
 
 /// A store, and the end of its history.
-#[derive(Drop)]
 pub struct NotedStore<S: Alter> {
     pub(crate) alloc: Global,
     pub(crate) store: Store<S>,
@@ -23,6 +22,17 @@ pub struct NotedStore<S: Alter> {
     pub(crate) next: u32,
     /// The mark of the last event; empty where there is none.
     pub(crate) mark: Vec<u8>,
+}
+
+impl<S: Alter + Drop> Drop for NotedStore<S> {
+    fn drop(self) {
+        let NotedStore {
+            alloc: _,
+            store: _,
+            next: _,
+            mark: _,
+        } = self;
+    }
 }
 
 impl<S: Alter> NotedStore<S> {
@@ -107,7 +117,12 @@ impl<S: Alter> NotedStore<S> {
     pub fn into_store(self) -> Store<S>
         ensures { result ≡ self.store }
     {
-        let NotedStore { store, .. } = self;
+        let NotedStore {
+            alloc: _,
+            store,
+            next: _,
+            mark: _,
+        } = self;
         store
     }
 }

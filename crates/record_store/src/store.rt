@@ -25,7 +25,6 @@ use sqlite::{Alter, Connection};
 use std::alloc::Global;
 
 /// An archive in a database, with the plan and counts that are kept beside the connection.
-#[derive(Drop)]
 pub struct Store<S: Alter> {
     pub(crate) alloc: Global,
     pub(crate) conn: Connection<S>,
@@ -33,6 +32,19 @@ pub struct Store<S: Alter> {
     pub(crate) next: u64,
     pub(crate) held: Counts,
     pub(crate) others: Counts,
+}
+
+impl<S: Alter + Drop> Drop for Store<S> {
+    fn drop(self) {
+        let Store {
+            alloc: _,
+            conn: _,
+            plan: _,
+            next: _,
+            held: _,
+            others: _,
+        } = self;
+    }
 }
 
 impl<S: Alter> Store<S> {
@@ -159,7 +171,14 @@ impl<S: Alter> Store<S> {
     pub fn into_connection(self) -> Connection<S>
         ensures { result ≡ self.conn }
     {
-        let Store { conn, .. } = self;
+        let Store {
+            alloc: _,
+            conn,
+            plan: _,
+            next: _,
+            held: _,
+            others: _,
+        } = self;
         conn
     }
 }

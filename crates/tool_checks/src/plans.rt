@@ -14,11 +14,16 @@ const LONGER: u64 = 64;
 const MAX_DROPPED: usize = 20;
 
 /// The plan that a command line names.
-#[derive(Drop)]
 pub struct NamedPlan {
     pub plan: Plan,
     /// The text of its file; none where no file is named, and the only class is `unfiled`.
     pub text: Option<Vec<u8>>,
+}
+
+impl Drop for NamedPlan {
+    fn drop(self) {
+        let NamedPlan { plan: _, text: _ } = self;
+    }
 }
 
 /// Adds a finding.

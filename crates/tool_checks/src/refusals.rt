@@ -16,7 +16,6 @@ pub enum Kind {
 }
 
 /// Something that is wrong with a script or a plan.
-#[derive(Drop)]
 pub struct Refusal {
     pub path: String,
     /// None where it is about the file as a whole.
@@ -24,6 +23,17 @@ pub struct Refusal {
     pub kind: Kind,
     /// What it is.
     pub words: Shown,
+}
+
+impl Drop for Refusal {
+    fn drop(self) {
+        let Refusal {
+            path: _,
+            place: _,
+            kind: _,
+            words: _,
+        } = self;
+    }
 }
 
 /// What is wrong with some files, in the order in which it is found.

@@ -7,7 +7,6 @@ use std::collections::BTreeMap;
 const MAX_GUESSES: usize = 20;
 
 /// What was told of scripts before.
-#[derive(Drop)]
 pub struct Told {
     alloc: Global,
     /// The paths of the scripts that were judged.
@@ -15,6 +14,17 @@ pub struct Told {
     /// Warnings, in words that are the same from whichever script they are found.
     warnings: BTreeMap<Vec<u8>, ()>,
     guesses: usize,
+}
+
+impl Drop for Told {
+    fn drop(self) {
+        let Told {
+            alloc: _,
+            judged: _,
+            warnings: _,
+            guesses: _,
+        } = self;
+    }
 }
 
 /// Adds octets; false where they are there.

@@ -36,7 +36,6 @@ pub fn patched(alloc: Global, text: &[u8], patch: Patch) -> Result<Vec<u8>, Allo
 }
 
 /// A script as far as it is repaired.
-#[derive(Drop)]
 pub struct Repaired {
     alloc: Global,
     text: Vec<u8>,
@@ -46,6 +45,18 @@ pub struct Repaired {
     length: usize,
     /// The capabilities that are required before the script begins.
     required: Vec<&'static str>,
+}
+
+impl Drop for Repaired {
+    fn drop(self) {
+        let Repaired {
+            alloc: _,
+            text: _,
+            origins: _,
+            length: _,
+            required: _,
+        } = self;
+    }
 }
 
 /// The `require` of a capability that a command can need.

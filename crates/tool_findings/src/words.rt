@@ -72,7 +72,6 @@ fn slips_in(length: usize) -> usize {
 }
 
 /// A word whose slips are counted, and the nearest known word so far.
-#[derive(Drop)]
 pub struct Guess<'w> {
     alloc: Global,
     /// In lower case; empty where no word is near to it.
@@ -80,6 +79,17 @@ pub struct Guess<'w> {
     /// The nearest word so far has fewer slips than these.
     fewest: usize,
     found: Option<&'w str>,
+}
+
+impl Drop for Guess<'_> {
+    fn drop(self) {
+        let Guess {
+            alloc: _,
+            word: _,
+            fewest: _,
+            found: _,
+        } = self;
+    }
 }
 
 impl<'w> Guess<'w> {

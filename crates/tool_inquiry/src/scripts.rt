@@ -27,12 +27,22 @@ use tool_report::{Book, Source};
 const ENDING: &[u8] = b".sieve";
 
 /// A good script of a file.
-#[derive(Drop)]
 pub struct ScriptFile {
     pub path: String,
     pub location: Location,
     pub text: Vec<u8>,
     pub script: Rc<Checked>,
+}
+
+impl Drop for ScriptFile {
+    fn drop(self) {
+        let ScriptFile {
+            path: _,
+            location: _,
+            text: _,
+            script: _,
+        } = self;
+    }
 }
 
 /// What follows the last `/` of a path; all of it where it has none.
@@ -146,11 +156,20 @@ pub fn library_of(alloc: Global, scripts: &[ScriptFile]) -> Result<Library, Inqu
 }
 
 /// A script that is run as that of an officer, with those that it can include.
-#[derive(Drop)]
 pub struct Scripts {
     pub main: ScriptFile,
     pub others: Vec<ScriptFile>,
     library: Library,
+}
+
+impl Drop for Scripts {
+    fn drop(self) {
+        let Scripts {
+            main: _,
+            others: _,
+            library: _,
+        } = self;
+    }
 }
 
 /// What is shown of a script.

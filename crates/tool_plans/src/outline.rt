@@ -48,12 +48,21 @@ pub(crate) struct Header {
 }
 
 /// What a plan file has, in the order of its text.
-#[derive(Drop)]
 pub(crate) struct Outline {
     pub(crate) keys: Vec<Key>,
     /// Where each class begins, an offset in octets.
     pub(crate) classes: Vec<usize>,
     pub(crate) others: Vec<Header>,
+}
+
+impl Drop for Outline {
+    fn drop(self) {
+        let Outline {
+            keys: _,
+            classes: _,
+            others: _,
+        } = self;
+    }
 }
 
 /// Reads an outline from the front of a text.

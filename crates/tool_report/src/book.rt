@@ -22,13 +22,23 @@ pub struct Source<'a> {
 }
 
 /// A script with its commands and tests, and the place of each.
-#[derive(Drop)]
 pub struct Page<'a> {
     pub label: &'a [u8],
     pub name: ScriptName<'a>,
     pub nodes: Vec<Node<'a>>,
     /// The line of each node, and the column at which a terminal shows it.
     pub places: Vec<Place>,
+}
+
+impl Drop for Page<'_> {
+    fn drop(self) {
+        let Page {
+            label: _,
+            name: _,
+            nodes: _,
+            places: _,
+        } = self;
+    }
 }
 
 /// The scripts of a run; the main script is the first one.

@@ -34,7 +34,6 @@ pub struct Row {
 }
 
 /// What a run came to, in its order. What a script does when it is entered again is not kept again.
-#[derive(Drop)]
 pub struct Narration {
     pub rows: Vec<Row>,
     /// For each path the command that filed first into it.
@@ -47,6 +46,19 @@ pub struct Narration {
     pub culprit: Option<Mark>,
     /// The includes that the faulty command was run by, the outermost first.
     pub by_way_of: Vec<Mark>,
+}
+
+impl Drop for Narration {
+    fn drop(self) {
+        let Narration {
+            rows: _,
+            filers: _,
+            keeper: _,
+            canceller: _,
+            culprit: _,
+            by_way_of: _,
+        } = self;
+    }
 }
 
 impl Narration {
