@@ -1,5 +1,5 @@
 -- Why what is typed asks nothing.
-use Rattle.std.specs.Prelude.{◌≡◌, ℕ, List, Option, Some, None}
+use Rattle.std.specs.Prelude.{◌≡◌, ℕ, List, Option, Some, None, Result, IfErr}
 use Rattle.std.specs.Borrow.{Bor}
 use Rattle.choice_words.specs.declared.choice.Choice.{Choice as Words}
 use Rattle.mail_display.specs.Asking.{first_blank}
@@ -39,3 +39,7 @@ Explains c (faults.Test (tests.Text refusal at)) = ExplainsTyped c.test (tests.T
 Explains c (faults.Test (tests.Test fault)) = ExplainsTyped c.test (tests.Test fault)
 Explains c (faults.EmptyText group) = blank_typed c ≡ Some group
 Explains c faults.NoMemory = Unit {0}
+
+-- where what is typed is refused, the fault says why
+abbrev pub IsExplained : {X : Type 0} → Words → Result X QuestionsFault → Type 0
+IsExplained c result = IfErr result (Explains c)

@@ -1,9 +1,9 @@
 //! What is asked of messages.
 
-ghost use Rattle.std.specs.Prelude.{◌≡◌, None, IfErr, IfOk};
+ghost use Rattle.std.specs.Prelude.{◌≡◌, None, IfOk};
 ghost use Rattle.record_choice.specs.Choices.{where_asked};
 ghost use Rattle.record_question.specs.Questions.{is_yes};
-ghost use Rattle.cli_choice.specs.Faults.{blank_typed, Explains};
+ghost use Rattle.cli_choice.specs.Faults.{blank_typed, IsExplained};
 ghost use Rattle.cli_choice.specs.Questions.{IsTestTyped, types_no_texts, fields_typed, asks_nothing, is_found, is_missed, is_found_answer, is_unread_answer, meets_fields, misses_fields};
 
 use choice_words::Choice;
@@ -75,7 +75,7 @@ impl From<FieldQuestionFault> for QuestionsFault {
 #[tactic(auto, using(crate::proofs::FaultLemmas::test_explained))]
 fn read_test(alloc: Global, typed: &Choice<'_>) -> Result<Option<TestQuestion>, QuestionsFault>
     ensures test { IfOk result (λ o. IsTestTyped typed.now.test o) }
-    ensures refused { IfErr result (λ e. Explains typed.now e) }
+    ensures refused { IsExplained typed.now result }
 {
     let Some(text) = typed.test else {
         return Ok(None);
@@ -96,7 +96,7 @@ fn has_no_texts(typed: &Choice<'_>) -> bool
 fn read_fields(alloc: Global, typed: &Choice<'_>) -> Result<Option<FieldQuestion>, QuestionsFault>
     ensures fields { IfOk result (λ o. o ≡ fields_typed typed.now) }
     ensures texts { IfOk result (λ o. blank_typed typed.now ≡ None) }
-    ensures refused { IfErr result (λ e. Explains typed.now e) }
+    ensures refused { IsExplained typed.now result }
 {
     if has_no_texts(typed) {
         return Ok(None);
@@ -112,7 +112,7 @@ impl Questions {
         ensures test { IfOk result (λ q. IsTestTyped typed.now.test q.test) }
         ensures fields { IfOk result (λ q. q.fields ≡ fields_typed typed.now) }
         ensures texts { IfOk result (λ q. blank_typed typed.now ≡ None) }
-        ensures refused { IfErr result (λ e. Explains typed.now e) }
+        ensures refused { IsExplained typed.now result }
     {
         Ok(Questions {
             test: read_test(alloc, typed)?,
