@@ -3,7 +3,7 @@ use Rattle.std.proofs.lemmas.Bool.{not-true, not-false}
 use Rattle.jiff.specs.Words.{epoch_day}
 use Rattle.record_archive.specs.Archive as archive
 use Rattle.record_archive.specs.Archive.{Archive, Record}
-use Rattle.record_choice.specs.Entries.{entry_view}
+use Rattle.record_choice.specs.Entries.{entry_view, name_list}
 use Rattle.record_choice.proofs.Judged.{has_names, refused_destroyed, refused_held, refused_kept, refused_early, destroyed_now}
 use Rattle.record_choice.proofs.Judged.{held_by_entry, names_by_entry, due_by_entry, date_by_entry, scheduled}
 use Rattle.record_choice.proofs.reasons.judge.Goals as goal
@@ -17,7 +17,8 @@ returns-then-has_any c = λ (a : Archive) n (r : Record) same at own shown.
     let e = entry_view c.args.entry in
     let live = sym (ap (λ x. x.destroyed) shown) ∙ c.if-entry.false in
     let held = sym (held_by_entry a n r e shown own) ∙ has_names c.as_slice.ensures.value c.has_any.ensures ∙ c.if-has_any.true in
-    (refused_held a n (epoch_day c.args.day) r at live held, names_by_entry a n r e shown own)
+    let same_names = ap (λ holds. name_list holds.items) c.into_holds.ensures in
+    (refused_held a n (epoch_day c.args.day) r at live held, same_names ∙ names_by_entry a n r e shown own)
 
 pub returns-then-not-destroys : goal.returns-then-not-destroys
 returns-then-not-destroys c = λ (a : Archive) n (r : Record) same at own shown.
