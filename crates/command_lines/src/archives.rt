@@ -10,6 +10,7 @@ mod history_words;
 mod holds;
 mod import_words;
 mod imports;
+mod names;
 mod numbers;
 mod question_words;
 mod questions;
@@ -18,7 +19,6 @@ mod sizes;
 mod words;
 
 use crate::reading::{NoCommand, has_flag, read_words, required, value_of};
-use crate::table::Word;
 use approvals::approved_asked;
 pub use approvals::{DisposalAsked, TypedDisposal};
 use captures::{filing_asked, intake_asked};
@@ -276,23 +276,23 @@ pub struct Disposal {
 }
 
 /// The formats that a list can have, with the flags that ask for them.
-const FORMATS: [(Word, Format); 4] = [
-    (words::CSV, Format::Csv),
-    (words::JSON, Format::Json),
-    (words::ONLY_NUMBERS, Format::Numbers),
-    (words::COUNT, Format::Count),
+const FORMATS: &[(&str, Format)] = &[
+    (names::CSV, Format::Csv),
+    (names::JSON, Format::Json),
+    (names::ONLY_NUMBERS, Format::Numbers),
+    (names::COUNT, Format::Count),
 ];
 
 /// How records are listed. Two formats at once are refused.
 fn format_asked(alloc: Global, asked: &ArgMatches<'_>) -> Result<Format, NoCommand> {
     let mut format = None;
-    for (word, named) in FORMATS {
-        if has_flag(asked, word) {
+    for (name, named) in FORMATS {
+        if has_flag(asked, name) {
             if format.is_some() {
                 let reason = "--csv, --json, --numbers and --count cannot be used together";
                 return Err(NoCommand::Wrong(String::from_str(alloc, reason)?));
             }
-            format = Some(named);
+            format = Some(*named);
         }
     }
     Ok(format.unwrap_or(Format::Lines))
@@ -301,7 +301,7 @@ fn format_asked(alloc: Global, asked: &ArgMatches<'_>) -> Result<Format, NoComma
 /// What a list has. Headers of messages are refused where no record has more than its number.
 fn listing_asked(alloc: Global, asked: &ArgMatches<'_>) -> Result<Listing, NoCommand> {
     let format = format_asked(alloc, asked)?;
-    let headers = has_flag(asked, words::HEADERS);
+    let headers = has_flag(asked, names::HEADERS);
     if headers && matches!(format, Format::Numbers | Format::Count) {
         let reason = "--headers cannot be used with --numbers or --count";
         return Err(NoCommand::Wrong(String::from_str(alloc, reason)?));
@@ -317,7 +317,7 @@ fn listing_asked(alloc: Global, asked: &ArgMatches<'_>) -> Result<Listing, NoCom
 fn list_asked<'a>(alloc: Global, asked: &ArgMatches<'a>) -> Result<Command<'a>, NoCommand> {
     let choice = choice_asked(alloc, asked)?;
     let listing = listing_asked(alloc, asked)?;
-    if !has_flag(asked, words::TWICE) {
+    if !has_flag(asked, names::TWICE) {
         return Ok(Command::Chosen(choice, ChosenTask::List(listing)));
     }
     if choice.is_empty() {
@@ -329,13 +329,13 @@ fn list_asked<'a>(alloc: Global, asked: &ArgMatches<'a>) -> Result<Command<'a>, 
 
 /// How the index of an export is sorted: by number, where nothing is said.
 fn sorting_asked(alloc: Global, asked: &ArgMatches<'_>) -> Result<Sorting, NoCommand> {
-    match value_of(asked, words::SORT) {
+    match value_of(asked, names::SORT) {
         None | Some("number") => Ok(Sorting::Number),
         Some("date") => Ok(Sorting::Date),
         Some("sender") => Ok(Sorting::Sender),
         Some(word) => Err(NoCommand::wrong_after(
             alloc,
-            words::SORT,
+            names::SORT,
             word,
             "none of number, date and sender",
         )),
@@ -357,7 +357,7 @@ const FOLDER_FORGOTTEN: &str =
 
 /// Where an export is written, and how its index is sorted. A folder that reads as numbers is refused.
 fn target_asked<'a>(alloc: Global, asked: &ArgMatches<'a>) -> Result<Target<'a>, NoCommand> {
-    let folder = required(asked, words::FOLDER)?;
+    let folder = required(asked, names::FOLDER)?;
     judge_place(alloc, folder, FOLDER_FORGOTTEN)?;
     Ok(Target {
         folder,
@@ -371,18 +371,18 @@ const FILE_FORGOTTEN: &str =
 
 /// The file of a copy. One that reads as numbers is refused.
 fn copy_asked<'a>(alloc: Global, asked: &ArgMatches<'a>) -> Result<Command<'a>, NoCommand> {
-    let new = required(asked, words::NEW)?;
+    let new = required(asked, names::NEW)?;
     judge_place(alloc, new, FILE_FORGOTTEN)?;
     Ok(Command::Copy {
         new,
-        is_damaged: has_flag(asked, words::DAMAGED),
+        is_damaged: has_flag(asked, names::DAMAGED),
     })
 }
 
 /// What is done with the plan. `--yes` is refused where there is no plan to agree to.
 fn plan_asked<'a>(alloc: Global, asked: &ArgMatches<'a>) -> Result<Command<'a>, NoCommand> {
-    let is_agreed = has_flag(asked, words::YES);
-    match value_of(asked, words::NEW_PLAN) {
+    let is_agreed = has_flag(asked, names::YES);
+    match value_of(asked, names::NEW_PLAN) {
         Some(plan) => Ok(Command::ReplacePlan { plan, is_agreed }),
         None if is_agreed => Err(NoCommand::Wrong(String::from_str(
             alloc,
@@ -394,23 +394,23 @@ fn plan_asked<'a>(alloc: Global, asked: &ArgMatches<'a>) -> Result<Command<'a>, 
 
 /// What is done with the titles of classes.
 fn titles_asked<'a>(asked: &ArgMatches<'a>) -> Command<'a> {
-    match value_of(asked, class_words::NEW_TITLES) {
+    match value_of(asked, names::NEW_TITLES) {
         Some(titles) => Command::SetTitles { titles },
         None => Command::WriteTitles {
-            is_json: has_flag(asked, words::JSON),
+            is_json: has_flag(asked, names::JSON),
         },
     }
 }
 
 /// What is to be destroyed.
 fn disposal_asked(alloc: Global, asked: &ArgMatches<'_>) -> Result<TypedDisposal, NoCommand> {
-    let day = day_asked(alloc, asked, &words::DAY)?;
+    let day = day_asked(alloc, asked, names::DAY)?;
     let is_damaged = damage_asked(alloc, asked)?;
     let Numbers { alone, of_volumes } = numbers_asked(alloc, asked)?;
     Ok(TypedDisposal {
         alone: Disposal {
             day,
-            destroys: has_flag(asked, words::YES),
+            destroys: has_flag(asked, names::YES),
             is_damaged,
             numbers: alone,
         },
@@ -420,8 +420,8 @@ fn disposal_asked(alloc: Global, asked: &ArgMatches<'_>) -> Result<TypedDisposal
 
 /// What is judged: the store, or rules. An officer is refused where there are no rules.
 fn check_asked<'a>(alloc: Global, asked: &ArgMatches<'a>) -> Result<Command<'a>, NoCommand> {
-    let officer = value_of(asked, capture_words::OFFICER);
-    match value_of(asked, capture_words::RULES) {
+    let officer = value_of(asked, names::OFFICER);
+    match value_of(asked, names::RULES) {
         Some(rules) => Ok(Command::CheckRules(RulesChecked { rules, officer })),
         None if officer.is_some() => Err(NoCommand::Wrong(String::from_str(
             alloc,
@@ -436,9 +436,9 @@ fn check_asked<'a>(alloc: Global, asked: &ArgMatches<'a>) -> Result<Command<'a>,
 /// Which record it is whose class is asked about, and by which rules.
 fn why_asked<'a>(alloc: Global, asked: &ArgMatches<'a>) -> Result<Why<'a>, NoCommand> {
     Ok(Why {
-        rules: required(asked, capture_words::RULES)?,
-        formerly: value_of(asked, words::FORMERLY),
-        officer: required(asked, capture_words::OFFICER)?,
+        rules: required(asked, names::RULES)?,
+        formerly: value_of(asked, names::FORMERLY),
+        officer: required(asked, names::OFFICER)?,
         record: record_asked(alloc, asked)?,
     })
 }
@@ -446,14 +446,14 @@ fn why_asked<'a>(alloc: Global, asked: &ArgMatches<'a>) -> Result<Why<'a>, NoCom
 /// What is made: a new store with a plan, or one of volumes that begins with a store that is there.
 fn create_asked<'a>(alloc: Global, asked: &ArgMatches<'a>) -> Result<Command<'a>, NoCommand> {
     let size = size_asked(alloc, asked)?;
-    match (value_of(asked, words::ADOPT), size) {
+    match (value_of(asked, names::ADOPT), size) {
         (Some(file), Some(size)) => Ok(Command::Adopt { file, size }),
         (Some(_), None) => Err(NoCommand::Wrong(String::from_str(
             alloc,
             "--adopt needs the size of --roll",
         )?)),
         (None, size) => Ok(Command::Create {
-            plan: required(asked, words::PLAN_FILE)?,
+            plan: required(asked, names::PLAN_FILE)?,
             size,
         }),
     }
@@ -470,7 +470,7 @@ fn change_asked<'a>(
         "plan" => plan_asked(alloc, asked)?,
         "deliver" => Command::Deliver {
             filing: filing_asked(alloc, asked)?,
-            is_as_is: has_flag(asked, import_words::AS_IS),
+            is_as_is: has_flag(asked, names::AS_IS),
         },
         "intake" => intake_asked(alloc, asked)?,
         "import" => Command::Import(import_asked(alloc, asked)?),
@@ -491,7 +491,7 @@ fn reading_asked<'a>(
     Ok(Some(match name {
         "show" => Command::Show {
             record: record_asked(alloc, asked)?,
-            fields: has_flag(asked, words::FIELDS),
+            fields: has_flag(asked, names::FIELDS),
         },
         "copy" => copy_asked(alloc, asked)?,
         "check" => check_asked(alloc, asked)?,
@@ -500,7 +500,7 @@ fn reading_asked<'a>(
             numbers: numbers_asked(alloc, asked)?,
         },
         "holds" => Command::Holds {
-            is_json: has_flag(asked, words::JSON),
+            is_json: has_flag(asked, names::JSON),
         },
         "titles" => titles_asked(asked),
         "why" => Command::Why(why_asked(alloc, asked)?),
@@ -524,7 +524,7 @@ fn chosen_asked<'a>(
         "release" => return Ok(Some(release_asked(alloc, asked)?)),
         "refile" => return Ok(Some(refile_asked(alloc, asked)?)),
         "report" => {
-            let day = day_asked(alloc, asked, &words::DAY)?;
+            let day = day_asked(alloc, asked, names::DAY)?;
             (conditions_asked(alloc, asked)?, ChosenTask::Report { day })
         }
         _ => return Ok(None),
@@ -553,7 +553,7 @@ fn line_asked<'a>(
     name: &str,
     asked: &ArgMatches<'a>,
 ) -> Result<CommandLine<'a>, NoCommand> {
-    let store = required(asked, words::STORE)?;
+    let store = required(asked, names::STORE)?;
     let attribution = attribution_asked(alloc, asked)?;
     let command = command_asked(alloc, name, asked)?;
     judge_author(alloc, &attribution, &command)?;

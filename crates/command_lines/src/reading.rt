@@ -1,7 +1,7 @@
 //! Words of a command line, which `clap` reads by a program's table.
 
 use crate::hints::{hint_on, stray_on};
-use crate::table::{Hint, Program, Word, command_of};
+use crate::table::{Hint, Program, command_of};
 use crate::wrapping::push_wrapped;
 use clap::error::ErrorKind;
 use clap::{ArgMatches, Command, Error};
@@ -43,8 +43,8 @@ impl NoCommand {
     }
 
     /// The refusal of the value of an option, with the option, the value as it is typed, and the reason.
-    pub(crate) fn wrong_after(alloc: Global, word: Word, typed: &str, reason: &str) -> NoCommand {
-        match format!(in alloc; "--{} {}: {reason}", word.name, seen(typed)) {
+    pub(crate) fn wrong_after(alloc: Global, name: &str, typed: &str, reason: &str) -> NoCommand {
+        match format!(in alloc; "--{name} {}: {reason}", seen(typed)) {
             Ok(text) => NoCommand::Wrong(text),
             Err(_) => NoCommand::NoMemory,
         }
@@ -197,24 +197,24 @@ pub(crate) fn read_words<'a>(
     }
 }
 
-/// The value of a word that is given, if it is.
-pub(crate) fn value_of<'a>(asked: &ArgMatches<'a>, word: Word) -> Option<&'a str> {
-    asked.get_str(word.name)
+/// The value of the word of a name, if it is given.
+pub(crate) fn value_of<'a>(asked: &ArgMatches<'a>, name: &str) -> Option<&'a str> {
+    asked.get_str(name)
 }
 
-/// The value of a word that must be given.
-pub(crate) fn required<'a>(asked: &ArgMatches<'a>, word: Word) -> Result<&'a str, NoCommand> {
-    value_of(asked, word).ok_or(NoCommand::Unread)
+/// The value of the word of a name, which must be given.
+pub(crate) fn required<'a>(asked: &ArgMatches<'a>, name: &str) -> Result<&'a str, NoCommand> {
+    value_of(asked, name).ok_or(NoCommand::Unread)
 }
 
-/// The values of a word, in the order in which they are given, if any is.
-pub(crate) fn values_of<'m, 'a>(asked: &'m ArgMatches<'a>, word: Word) -> Option<&'m [&'a str]> {
-    asked.get_strs(word.name)
+/// The values of the word of a name, in the order in which they are given, if any is.
+pub(crate) fn values_of<'m, 'a>(asked: &'m ArgMatches<'a>, name: &str) -> Option<&'m [&'a str]> {
+    asked.get_strs(name)
 }
 
-/// Whether a flag is given.
-pub(crate) fn has_flag(asked: &ArgMatches<'_>, word: Word) -> bool {
-    asked.get_flag(word.name)
+/// Whether the flag of a name is given.
+pub(crate) fn has_flag(asked: &ArgMatches<'_>, name: &str) -> bool {
+    asked.get_flag(name)
 }
 
 /// The number of a word of exactly `count` decimal digits.

@@ -9,8 +9,11 @@ use std::process::ExitCode;
 /// The status where the command line is refused.
 const STATUS_USAGE: u8 = 2;
 
-const STORE: Word = Word {
-    name: "store",
+/// The name of the option of the store.
+const STORE: &str = "store";
+
+static STORE_OPTION: Word = Word {
+    name: STORE,
     value: "FILE",
     help: Some("The file that keeps the store; without it the store is in memory"),
     ..OPTION
@@ -30,7 +33,7 @@ fn command<'a>(alloc: Global) -> Result<Command<'a>, AllocError> {
         "mailfile",
         "Files e-mail as records: serves a session from standard input to standard output",
     )?
-    .arg(argument_of(alloc, &STORE)?)
+    .arg(argument_of(alloc, &STORE_OPTION)?)
 }
 
 /// Some words, and the command that reads them.

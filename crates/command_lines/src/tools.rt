@@ -1,5 +1,6 @@
 //! The command line of `mailfile-tool`: what it asks for, with each value read and judged.
 
+mod names;
 mod words;
 
 use crate::reading::{NoCommand, day_of, has_flag, read_words, required, value_of, values_of};
@@ -142,14 +143,14 @@ fn wrong(alloc: Global, words: &str) -> Result<NoCommand, AllocError> {
 /// The folders of the scripts that can be included.
 fn folders_asked<'a>(asked: &ArgMatches<'a>) -> Folders<'a> {
     Folders {
-        personal: value_of(asked, words::PERSONAL),
-        global: value_of(asked, words::GLOBAL),
+        personal: value_of(asked, names::PERSONAL),
+        global: value_of(asked, names::GLOBAL),
     }
 }
 
 /// Where scripts are.
 fn place_asked<'a>(asked: &ArgMatches<'a>) -> Place<'a> {
-    match value_of(asked, words::RULES) {
+    match value_of(asked, names::RULES) {
         Some(folder) => Place::Rules(folder),
         None => Place::Folders(folders_asked(asked)),
     }
@@ -162,23 +163,23 @@ fn number_of(word: &str) -> Option<u8> {
 
 /// What is explained: all numbers rather than one, and one rather than replies.
 fn explain_asked<'a>(asked: &ArgMatches<'a>) -> Explain<'a> {
-    if has_flag(asked, words::NUMBERS) {
+    if has_flag(asked, names::NUMBERS) {
         return Explain::Numbers;
     }
-    match value_of(asked, words::NUMBER) {
+    match value_of(asked, names::NUMBER) {
         Some(word) => Explain::Number {
             word,
             number: number_of(word),
         },
         None => Explain::Replies {
-            script: value_of(asked, words::REFUSED),
+            script: value_of(asked, names::REFUSED),
         },
     }
 }
 
 /// What is judged. Files have to be named; officers of a folder of all rules may be missing.
 fn check_asked<'a>(alloc: Global, asked: &ArgMatches<'a>) -> Result<Check<'a>, NoCommand> {
-    let files = values_of(asked, words::FILES).unwrap_or(&[]);
+    let files = values_of(asked, names::FILES).unwrap_or(&[]);
     let place = place_asked(asked);
     if let (Place::Folders(_), true) = (place, files.is_empty()) {
         return Err(wrong(
@@ -188,7 +189,7 @@ fn check_asked<'a>(alloc: Global, asked: &ArgMatches<'a>) -> Result<Check<'a>, N
     }
     Ok(Check {
         files: Vec::from_slice(alloc, files)?,
-        plan: value_of(asked, words::PRESENT_PLAN),
+        plan: value_of(asked, names::PRESENT_PLAN),
         place,
     })
 }
@@ -196,24 +197,24 @@ fn check_asked<'a>(alloc: Global, asked: &ArgMatches<'a>) -> Result<Check<'a>, N
 /// The script whose image is written, and where.
 fn compile_asked<'a>(asked: &ArgMatches<'a>) -> Result<Command<'a>, NoCommand> {
     Ok(Command::Compile {
-        script: required(asked, words::SCRIPT)?,
+        script: required(asked, names::SCRIPT)?,
         place: place_asked(asked),
-        image: required(asked, words::OUTPUT)?,
+        image: required(asked, names::OUTPUT)?,
     })
 }
 
 /// The folder of all rules whose officers are recipients, and their domains.
 fn recipients_asked<'a>(alloc: Global, asked: &ArgMatches<'a>) -> Result<Command<'a>, NoCommand> {
-    let domains = values_of(asked, words::DOMAINS).unwrap_or(&[]);
+    let domains = values_of(asked, names::DOMAINS).unwrap_or(&[]);
     Ok(Command::Recipients {
-        rules: required(asked, words::RULES)?,
+        rules: required(asked, names::RULES)?,
         domains: Vec::from_slice(alloc, domains)?,
     })
 }
 
 /// The day of a capture, where it is given.
 fn day_asked(alloc: Global, asked: &ArgMatches<'_>) -> Result<Option<Date>, NoCommand> {
-    let Some(text) = value_of(asked, words::DAY) else {
+    let Some(text) = value_of(asked, names::DAY) else {
         return Ok(None);
     };
     match day_of(text) {
@@ -224,9 +225,9 @@ fn day_asked(alloc: Global, asked: &ArgMatches<'_>) -> Result<Option<Date>, NoCo
 
 /// How it is said why a script files a message: by its steps rather than as JSON.
 fn format_asked(asked: &ArgMatches<'_>) -> Format {
-    if has_flag(asked, words::STEPS) {
+    if has_flag(asked, names::STEPS) {
         Format::Steps
-    } else if has_flag(asked, words::JSON) {
+    } else if has_flag(asked, names::JSON) {
         Format::Json
     } else {
         Format::Lines
@@ -238,8 +239,8 @@ fn rules_asked<'a>(
     alloc: Global,
     asked: &ArgMatches<'a>,
 ) -> Result<(Rules<'a>, &'a str), NoCommand> {
-    let first = required(asked, words::SCRIPT)?;
-    match (value_of(asked, words::RUN), value_of(asked, words::MESSAGE)) {
+    let first = required(asked, names::SCRIPT)?;
+    match (value_of(asked, names::RUN), value_of(asked, names::MESSAGE)) {
         (Some(image), None) => Ok((Rules::Image(image), first)),
         (None, Some(message)) => {
             let script = Rules::Script {
@@ -263,7 +264,7 @@ fn why_asked<'a>(alloc: Global, asked: &ArgMatches<'a>) -> Result<Why<'a>, NoCom
     Ok(Why {
         by,
         message,
-        plan: value_of(asked, words::PLAN),
+        plan: value_of(asked, names::PLAN),
         day,
     })
 }
@@ -276,13 +277,13 @@ fn command_asked<'a>(
 ) -> Result<Command<'a>, NoCommand> {
     match name {
         "frame" => Ok(Command::Frame {
-            file: value_of(asked, words::COMMANDS),
+            file: value_of(asked, names::COMMANDS),
         }),
         "explain" => Ok(Command::Explain(explain_asked(asked))),
         "check" => Ok(Command::Check(check_asked(alloc, asked)?)),
         "compile" => compile_asked(asked),
         "dump" => Ok(Command::Dump {
-            image: required(asked, words::IMAGE)?,
+            image: required(asked, names::IMAGE)?,
         }),
         "why" => Ok(Command::Why(why_asked(alloc, asked)?)),
         "recipients" => recipients_asked(alloc, asked),

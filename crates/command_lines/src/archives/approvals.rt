@@ -1,6 +1,6 @@
 //! What a command line says of the records that were approved for destruction.
 
-use super::Disposal;
+use super::{Disposal, names};
 use crate::reading::{NoCommand, value_of};
 use crate::table::{OPTION, Stray, StrayKind, Word};
 use choice_words::VolumeNumbers;
@@ -9,7 +9,7 @@ use std::alloc::Global;
 
 /// The file of the numbers that were approved for destruction.
 pub const APPROVED: Word = Word {
-    name: "approved",
+    name: names::APPROVED,
     value: "FILE",
     help: Some(
         "The records whose numbers stand in this file, as list --numbers prints them, in place of numbers here; - for standard input; a file without any number is refused",
@@ -62,7 +62,7 @@ pub(super) fn approved_asked<'a>(
     asked: &ArgMatches<'a>,
     typed: TypedDisposal,
 ) -> Result<DisposalAsked<'a>, NoCommand> {
-    let approved = value_of(asked, APPROVED);
+    let approved = value_of(asked, names::APPROVED);
     if approved.is_some() && !typed.is_of_all() {
         let reason = "--approved takes the numbers from its file; type none beside it";
         return Err(NoCommand::Wrong(String::from_str(alloc, reason)?));

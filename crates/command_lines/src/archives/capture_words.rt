@@ -1,10 +1,11 @@
 //! The words with which mail is captured: by which rules, as of which moment, and from where.
 
+use super::names;
 use crate::table::{FLAG, OPTION, PLACE, Word};
 
 /// The rules by which mail is filed.
 pub const RULES: Word = Word {
-    name: "rules",
+    name: names::RULES,
     value: "FOLDER",
     is_required: true,
     help: Some(
@@ -14,7 +15,7 @@ pub const RULES: Word = Word {
 };
 
 pub const OFFICER: Word = Word {
-    name: "officer",
+    name: names::OFFICER,
     value: "OFFICER",
     help: Some(
         "The officer by whose rules mail is filed: the name of a folder in that of the rules",
@@ -23,7 +24,7 @@ pub const OFFICER: Word = Word {
 };
 
 pub const UNFILED_ON_FAULT: Word = Word {
-    name: "unfiled-on-fault",
+    name: names::UNFILED_ON_FAULT,
     help: Some(
         "Captures mail in unfiled where the officer or a script is missing, or a script or a run is at fault",
     ),
@@ -31,7 +32,7 @@ pub const UNFILED_ON_FAULT: Word = Word {
 };
 
 pub const AT: Word = Word {
-    name: "at",
+    name: names::AT,
     value: "MOMENT",
     help: Some(
         "The moment of the capture, not later than now: in seconds since 1970, or YYYY-MM-DD for the beginning of a day in UTC; now takes the clock as it is; if none is given, the clock, unless it stands before the days of the store",
@@ -40,7 +41,7 @@ pub const AT: Word = Word {
 };
 
 pub const LIMIT: Word = Word {
-    name: "limit",
+    name: names::LIMIT,
     value: "SECONDS",
     help: Some(
         "How long the rules may work on a message, from 1 second to 86,400; 60 if none is given. After that it is not captured",
@@ -49,19 +50,19 @@ pub const LIMIT: Word = Word {
 };
 
 pub const QUIET: Word = Word {
-    name: "quiet",
+    name: names::QUIET,
     help: Some("Tells nothing of what is captured, only of messages that stay and of faults"),
     ..FLAG
 };
 
 pub const TIMES: Word = Word {
-    name: "times",
+    name: names::TIMES,
     help: Some("Begins each line with the time of day in UTC, as for a log"),
     ..FLAG
 };
 
 pub const MAILDIR: Word = Word {
-    name: "maildir",
+    name: names::MAILDIR,
     value: "MAILDIR",
     help: Some("The folder of the mail, which has the folders new and cur"),
     ..PLACE

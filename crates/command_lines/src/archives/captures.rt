@@ -1,6 +1,6 @@
 //! What a command line says of how mail is captured: by which rules, as of which moment, for how long, and what is told of it.
 
-use super::{Command, Filing, Moment, Telling, capture_words as words};
+use super::{Command, Filing, Moment, Telling, names};
 use crate::reading::{NoCommand, day_of, has_flag, required, value_of};
 use clap::ArgMatches;
 use jiff::civil::{Date, date};
@@ -24,14 +24,14 @@ fn moment_of(word: &str) -> Option<u64> {
 
 /// The moment of a capture.
 fn moment_asked(alloc: Global, asked: &ArgMatches<'_>) -> Result<Moment, NoCommand> {
-    match value_of(asked, words::AT) {
+    match value_of(asked, names::AT) {
         None => Ok(Moment::Unnamed),
         Some("now") => Ok(Moment::Now),
         Some(word) => match moment_of(word) {
             Some(moment) => Ok(Moment::At(moment)),
             None => Err(NoCommand::wrong_after(
                 alloc,
-                words::AT,
+                names::AT,
                 word,
                 "none of now, a number of seconds since 1970, and a day written YYYY-MM-DD",
             )),
@@ -47,14 +47,14 @@ const GREATEST_LIMIT: u64 = 86_400;
 
 /// How long the work on a message may take, in seconds.
 fn limit_asked(alloc: Global, asked: &ArgMatches<'_>) -> Result<u64, NoCommand> {
-    let Some(word) = value_of(asked, words::LIMIT) else {
+    let Some(word) = value_of(asked, names::LIMIT) else {
         return Ok(LIMIT);
     };
     match read_number(word.as_bytes(), GREATEST_LIMIT) {
         Some(seconds) if seconds > 0 => Ok(seconds),
         _ => Err(NoCommand::wrong_after(
             alloc,
-            words::LIMIT,
+            names::LIMIT,
             word,
             "not a number of seconds from 1 to 86400",
         )),
@@ -67,9 +67,9 @@ pub(super) fn filing_asked<'a>(
     asked: &ArgMatches<'a>,
 ) -> Result<Filing<'a>, NoCommand> {
     Ok(Filing {
-        rules: required(asked, words::RULES)?,
-        officer: required(asked, words::OFFICER)?,
-        unfiled_on_fault: has_flag(asked, words::UNFILED_ON_FAULT),
+        rules: required(asked, names::RULES)?,
+        officer: required(asked, names::OFFICER)?,
+        unfiled_on_fault: has_flag(asked, names::UNFILED_ON_FAULT),
         moment: moment_asked(alloc, asked)?,
         limit: limit_asked(alloc, asked)?,
     })
@@ -81,11 +81,11 @@ pub(super) fn intake_asked<'a>(
     asked: &ArgMatches<'a>,
 ) -> Result<Command<'a>, NoCommand> {
     Ok(Command::Intake {
-        maildir: required(asked, words::MAILDIR)?,
+        maildir: required(asked, names::MAILDIR)?,
         filing: filing_asked(alloc, asked)?,
         telling: Telling {
-            is_quiet: has_flag(asked, words::QUIET),
-            has_times: has_flag(asked, words::TIMES),
+            is_quiet: has_flag(asked, names::QUIET),
+            has_times: has_flag(asked, names::TIMES),
         },
     })
 }

@@ -1,10 +1,11 @@
 //! The words by which records get another class, and classes their titles.
 
+use super::names;
 use crate::table::{OPTION, Word};
 
 /// The class that records get.
 pub const TO: Word = Word {
-    name: "to",
+    name: names::TO,
     value: "CLASS",
     is_required: true,
     help: Some("The class that they get: one of the plan, open or closed"),
@@ -13,7 +14,7 @@ pub const TO: Word = Word {
 
 /// The file of titles.
 pub const NEW_TITLES: Word = Word {
-    name: "set",
+    name: names::NEW_TITLES,
     value: "FILE",
     help: Some(
         "The file of the titles: for each class a table, as [\"finance/tax\"], with title and basis",

@@ -1,14 +1,14 @@
 //! What a command line asks of a disposal beside its records.
 
-use super::words;
+use super::names;
 use crate::reading::{NoCommand, has_flag};
 use clap::ArgMatches;
 use std::alloc::Global;
 
 /// Whether records are destroyed too whose messages are not the ones that were captured. Refused where none is destroyed.
 pub(super) fn damage_asked(alloc: Global, asked: &ArgMatches<'_>) -> Result<bool, NoCommand> {
-    let is_damaged = has_flag(asked, words::DAMAGED);
-    if is_damaged && !has_flag(asked, words::YES) {
+    let is_damaged = has_flag(asked, names::DAMAGED);
+    if is_damaged && !has_flag(asked, names::YES) {
         let reason = "--damaged needs --yes; without it records are only listed";
         return Err(NoCommand::Wrong(String::from_str(alloc, reason)?));
     }

@@ -6,10 +6,8 @@ ghost use Rattle.command_lines.specs.Histories.{IsAskedFor};
 
 use super::numbers::{Numbers, numbers_asked, numbers_in_volume};
 use super::questions::day_asked;
-use super::words::JSON;
-use super::{Command, history_words as words};
+use super::{Command, names};
 use crate::reading::{NoCommand, has_flag, value_of};
-use crate::table::Word;
 use choice_words::{TypedNumbers, VolumeNumbers};
 use clap::ArgMatches;
 use jiff::civil::Date;
@@ -171,7 +169,7 @@ pub(super) fn judge_author(
 
 /// A name for the history, where one is given.
 fn name_told<'a>(alloc: Global, asked: &ArgMatches<'a>) -> Result<Option<&'a str>, NoCommand> {
-    match value_of(asked, words::BY) {
+    match value_of(asked, names::BY) {
         Some(name) if !is_name_told(name) => {
             let reason = "who does it is told by 1 to 64 visible ASCII characters, as ann";
             Err(NoCommand::wrong(alloc, name, reason))
@@ -182,7 +180,7 @@ fn name_told<'a>(alloc: Global, asked: &ArgMatches<'a>) -> Result<Option<&'a str
 
 /// A reason for the history.
 fn reason_told<'a>(alloc: Global, asked: &ArgMatches<'a>) -> Result<&'a str, NoCommand> {
-    let text = value_of(asked, words::REASON).unwrap_or("");
+    let text = value_of(asked, names::REASON).unwrap_or("");
     if is_reason(alloc, text)? {
         return Ok(text);
     }
@@ -203,7 +201,7 @@ pub(super) fn attribution_asked<'a>(
 }
 
 /// The words for kinds of deeds.
-const KINDS: [(&str, DeedKind); 11] = [
+const KINDS: &[(&str, DeedKind)] = &[
     ("captured", DeedKind::Captured),
     ("held", DeedKind::Held),
     ("released", DeedKind::Released),
@@ -220,8 +218,8 @@ const KINDS: [(&str, DeedKind); 11] = [
 /// The kind of a word.
 fn kind_of(word: &str) -> Option<DeedKind> {
     for (name, kind) in KINDS {
-        if name == word {
-            return Some(kind);
+        if *name == word {
+            return Some(*kind);
         }
     }
     None
@@ -229,7 +227,7 @@ fn kind_of(word: &str) -> Option<DeedKind> {
 
 /// A kind of deed, where one is asked for.
 fn kind_asked(alloc: Global, asked: &ArgMatches<'_>) -> Result<Option<DeedKind>, NoCommand> {
-    let Some(word) = value_of(asked, words::DEEDS) else {
+    let Some(word) = value_of(asked, names::DEEDS) else {
         return Ok(None);
     };
     match kind_of(word) {
@@ -237,7 +235,7 @@ fn kind_asked(alloc: Global, asked: &ArgMatches<'_>) -> Result<Option<DeedKind>,
         None => {
             let reason =
                 "none of captured, held, released, refiled, destroyed, added, replaced, titled, made, found and accepted";
-            Err(NoCommand::wrong_after(alloc, words::DEEDS, word, reason))
+            Err(NoCommand::wrong_after(alloc, names::DEEDS, word, reason))
         }
     }
 }
@@ -247,10 +245,10 @@ fn events_asked<'a>(alloc: Global, asked: &ArgMatches<'a>) -> Result<TypedHistor
     let Numbers { alone, of_volumes } = numbers_asked(alloc, asked)?;
     let alone = HistoryAsked {
         numbers: alone,
-        since: day_asked(alloc, asked, &words::EVENTS_SINCE)?,
-        by: value_of(asked, words::BY),
+        since: day_asked(alloc, asked, names::EVENTS_SINCE)?,
+        by: value_of(asked, names::BY),
         kind: kind_asked(alloc, asked)?,
-        is_json: has_flag(asked, JSON),
+        is_json: has_flag(asked, names::JSON),
     };
     Ok(TypedHistory { alone, of_volumes })
 }
@@ -265,24 +263,24 @@ enum Change {
 }
 
 /// The changes of a history, with the flags that ask for them.
-const CHANGES: [(Word, Change); 4] = [
-    (words::BEGIN, Change::Begin),
-    (words::REQUIRE_REASON, Change::RequireReasons),
-    (words::WAIVE_REASON, Change::WaiveReasons),
-    (words::ACCEPT_FOUND, Change::AcceptFound),
+const CHANGES: &[(&str, Change)] = &[
+    (names::BEGIN, Change::Begin),
+    (names::REQUIRE_REASON, Change::RequireReasons),
+    (names::WAIVE_REASON, Change::WaiveReasons),
+    (names::ACCEPT_FOUND, Change::AcceptFound),
 ];
 
 /// The change of a history that is asked for, if one is. Two at once are refused.
 fn change_asked(alloc: Global, asked: &ArgMatches<'_>) -> Result<Option<Change>, NoCommand> {
     let mut change = None;
-    for (word, named) in CHANGES {
-        if has_flag(asked, word) {
+    for (name, named) in CHANGES {
+        if has_flag(asked, name) {
             if change.is_some() {
                 let reason =
                     "of --begin, --require-reason, --waive-reason and --accept-found one stands alone";
                 return Err(NoCommand::Wrong(String::from_str(alloc, reason)?));
             }
-            change = Some(named);
+            change = Some(*named);
         }
     }
     Ok(change)
@@ -318,7 +316,7 @@ fn judge_change(
             "--begin, --require-reason, --waive-reason and --accept-found stand with --by and --reason alone";
         return Err(NoCommand::Wrong(String::from_str(alloc, reason)?));
     }
-    if needs_reason(change) && value_of(asked, words::REASON).unwrap_or("").is_empty() {
+    if needs_reason(change) && value_of(asked, names::REASON).unwrap_or("").is_empty() {
         let reason = "--waive-reason and --accept-found need a reason; give it by --reason TEXT";
         return Err(NoCommand::Wrong(String::from_str(alloc, reason)?));
     }
@@ -336,7 +334,7 @@ pub(super) fn history_asked<'a>(
         judge_change(alloc, asked, &events, change)?;
         return Ok(task_of(change));
     }
-    if value_of(asked, words::REASON).is_some() {
+    if value_of(asked, names::REASON).is_some() {
         let reason = "--reason needs --begin, --require-reason, --waive-reason or --accept-found";
         return Err(NoCommand::Wrong(String::from_str(alloc, reason)?));
     }
@@ -356,7 +354,7 @@ pub(super) fn head_asked<'a>(
     alloc: Global,
     asked: &ArgMatches<'a>,
 ) -> Result<Option<&'a str>, NoCommand> {
-    match value_of(asked, words::HEAD) {
+    match value_of(asked, names::HEAD) {
         Some(mark) if !is_mark(mark) => {
             let reason =
                 "a mark is 64 hexadecimal digits, a to f as small letters, as check prints it";

@@ -1,7 +1,7 @@
 //! What a command line asks of holds.
 
 use super::questions::typed_of;
-use super::{ChosenTask, Command, judge_place, words};
+use super::{ChosenTask, Command, judge_place, names};
 use crate::reading::{NoCommand, has_flag, required};
 use choice_words::TypedChoice;
 use clap::ArgMatches;
@@ -10,7 +10,7 @@ use std::alloc::{AllocError, Global};
 
 /// The name of a hold.
 fn name_asked<'a>(alloc: Global, asked: &ArgMatches<'a>) -> Result<&'a str, NoCommand> {
-    let name = required(asked, words::NAME)?;
+    let name = required(asked, names::NAME)?;
     if is_name(name.as_bytes()) {
         return Ok(name);
     }
@@ -78,7 +78,7 @@ fn whole_asked<'a>(
     }
     Ok(Command::ReleaseAll {
         name,
-        is_agreed: has_flag(asked, words::YES),
+        is_agreed: has_flag(asked, names::YES),
     })
 }
 
@@ -88,10 +88,10 @@ pub(super) fn release_asked<'a>(
     asked: &ArgMatches<'a>,
 ) -> Result<Command<'a>, NoCommand> {
     let name = name_asked(alloc, asked)?;
-    if has_flag(asked, words::ALL) {
+    if has_flag(asked, names::ALL) {
         return whole_asked(alloc, asked, name);
     }
-    if has_flag(asked, words::YES) {
+    if has_flag(asked, names::YES) {
         return Err(refusal(alloc, "--yes needs --all")?);
     }
     let choice = held_asked(alloc, asked, name, NONE_TO_RELEASE)?;

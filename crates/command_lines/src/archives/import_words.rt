@@ -1,10 +1,11 @@
 //! The words with which old mail is taken in, and the one for a message that looks like none.
 
+use super::names;
 use crate::table::{FLAG, Form, OPTION, PLACE, Word};
 
 /// What gives the moment of capture.
 pub const DATED: Word = Word {
-    name: "dated",
+    name: names::DATED,
     value: "WHEN",
     is_required: true,
     help: Some(
@@ -14,7 +15,7 @@ pub const DATED: Word = Word {
 };
 
 pub const AGAIN: Word = Word {
-    name: "again",
+    name: names::AGAIN,
     help: Some(
         "Captures messages too that are captured already for the officer, as the history has it",
     ),
@@ -22,7 +23,7 @@ pub const AGAIN: Word = Word {
 };
 
 pub const VERBOSE: Word = Word {
-    name: "verbose",
+    name: names::VERBOSE,
     help: Some("Names each message that is captured already, with its first record"),
     conflict: Some("quiet"),
     ..FLAG
@@ -30,7 +31,7 @@ pub const VERBOSE: Word = Word {
 
 /// Where old mail is.
 pub const SOURCES: Word = Word {
-    name: "sources",
+    name: names::SOURCES,
     form: Form::Places,
     value: "SOURCE",
     help: Some("An mbox, a folder of .eml files, or a Maildir; one or many"),
@@ -38,7 +39,7 @@ pub const SOURCES: Word = Word {
 };
 
 pub const AS_IS: Word = Word {
-    name: "as-is",
+    name: names::AS_IS,
     help: Some("Captures it also where it is empty, an mbox, or without any header field"),
     ..FLAG
 };

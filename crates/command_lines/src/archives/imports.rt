@@ -1,9 +1,7 @@
 //! What a command line asks of an import.
 
-use super::Filing;
-use super::capture_words::QUIET;
 use super::captures::filing_asked;
-use super::import_words::{AGAIN, DATED, SOURCES, VERBOSE};
+use super::{Filing, names};
 use crate::reading::{NoCommand, day_of, has_flag, required, values_of};
 use clap::ArgMatches;
 use jiff::civil::Date;
@@ -40,7 +38,7 @@ pub struct Import<'a> {
 
 /// What gives the moment of a message's capture.
 fn dating_asked(alloc: Global, asked: &ArgMatches<'_>) -> Result<Dating, NoCommand> {
-    let word = required(asked, DATED)?;
+    let word = required(asked, names::DATED)?;
     match word {
         "received" => Ok(Dating::Received),
         "date" => Ok(Dating::Date),
@@ -61,13 +59,13 @@ pub(super) fn import_asked<'a>(
     alloc: Global,
     asked: &ArgMatches<'a>,
 ) -> Result<Import<'a>, NoCommand> {
-    let typed = values_of(asked, SOURCES).unwrap_or(&[]);
+    let typed = values_of(asked, names::SOURCES).unwrap_or(&[]);
     Ok(Import {
         sources: Vec::from_slice(alloc, typed)?,
         filing: filing_asked(alloc, asked)?,
         dating: dating_asked(alloc, asked)?,
-        is_quiet: has_flag(asked, QUIET),
-        is_verbose: has_flag(asked, VERBOSE),
-        is_again: has_flag(asked, AGAIN),
+        is_quiet: has_flag(asked, names::QUIET),
+        is_verbose: has_flag(asked, names::VERBOSE),
+        is_again: has_flag(asked, names::AGAIN),
     })
 }

@@ -3,7 +3,7 @@
 ghost use Rattle.std.specs.Prelude.{◌≡◌, [], map, IfOk};
 ghost use Rattle.command_lines.specs.Numbers.{AddsWord, AreOfVolume, AreTyped, number_typed};
 
-use super::{TypedNumber, question_words as words};
+use super::{TypedNumber, names};
 use crate::reading::{NoCommand, required, seen, value_of, values_of};
 use choice_words::{
     TypedNumbers, VolumeNumber, VolumeNumbers, is_named_or_none, numbers_for, read_numbers,
@@ -46,7 +46,7 @@ pub(super) fn record_asked<'a>(
 ) -> Result<TypedNumber<'a>, NoCommand> {
     number_of(
         alloc,
-        required(asked, words::NUMBER)?,
+        required(asked, names::NUMBER)?,
         "not a number of a record, as 3; list prints the numbers",
     )
 }
@@ -56,7 +56,7 @@ pub(super) fn first_asked<'a>(
     alloc: Global,
     asked: &ArgMatches<'a>,
 ) -> Result<Option<TypedNumber<'a>>, NoCommand> {
-    let Some(word) = value_of(asked, words::FROM) else {
+    let Some(word) = value_of(asked, names::FROM) else {
         return Ok(None);
     };
     let reason =
@@ -168,5 +168,5 @@ fn numbers_of(alloc: Global, typed: &[&str]) -> Result<Numbers, NoCommand>
 
 /// The numbers of records that are given, and the ranges of them, with a volume or without.
 pub(super) fn numbers_asked(alloc: Global, asked: &ArgMatches<'_>) -> Result<Numbers, NoCommand> {
-    numbers_of(alloc, values_of(asked, words::NUMBERS).unwrap_or(&[]))
+    numbers_of(alloc, values_of(asked, names::NUMBERS).unwrap_or(&[]))
 }

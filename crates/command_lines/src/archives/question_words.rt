@@ -1,10 +1,11 @@
 //! The words with which records are asked for: by their numbers, and by conditions that they meet.
 
+use super::names;
 use crate::table::{FLAG, Form, Hint, OPTION, PLACE, Word};
 
 /// The numbers of records, and ranges of them.
 pub const NUMBERS: Word = Word {
-    name: "chosen",
+    name: names::NUMBERS,
     form: Form::Places,
     value: "NUMBER",
     is_required: false,
@@ -15,68 +16,68 @@ pub const NUMBERS: Word = Word {
 };
 
 pub const NUMBER: Word = Word {
-    name: "number",
+    name: names::NUMBER,
     value: "NUMBER",
     help: Some("The number of the record, as list prints it"),
     ..PLACE
 };
 
 pub const FROM: Word = Word {
-    name: "from",
+    name: names::FROM,
     value: "N",
     help: Some("Records with this number or a greater one"),
     ..OPTION
 };
 
 pub const CLASS: Word = Word {
-    name: "class",
+    name: names::CLASS,
     value: "PATH",
     help: Some("Records of this class and of those below it"),
     ..OPTION
 };
 
 pub const SINCE: Word = Word {
-    name: "since",
+    name: names::SINCE,
     value: "YYYY-MM-DD",
     help: Some("Records that were captured on this day or later"),
     ..OPTION
 };
 
 pub const UNTIL: Word = Word {
-    name: "until",
+    name: names::UNTIL,
     value: "YYYY-MM-DD",
     help: Some("Records that were captured on this day or before"),
     ..OPTION
 };
 
 pub const DUE: Word = Word {
-    name: "due",
+    name: names::DUE,
     value: "YYYY-MM-DD",
     help: Some("Records that are due by this day, which is not later than today"),
     ..OPTION
 };
 
 pub const HELD: Word = Word {
-    name: "held",
+    name: names::HELD,
     help: Some("Records that a hold keeps"),
     ..FLAG
 };
 
 pub const LIVE: Word = Word {
-    name: "live",
+    name: names::LIVE,
     help: Some("Records that are not destroyed"),
     ..FLAG
 };
 
 pub const DESTROYED: Word = Word {
-    name: "destroyed",
+    name: names::DESTROYED,
     help: Some("Records that are destroyed"),
     conflict: Some("live"),
     ..FLAG
 };
 
 pub const WHERE: Word = Word {
-    name: "where",
+    name: names::WHERE,
     value: "TEST",
     help: Some(
         "Records whose message meets this test, written as in a rule; none that are destroyed",
@@ -85,7 +86,7 @@ pub const WHERE: Word = Word {
 };
 
 pub const SENDER: Word = Word {
-    name: "sender",
+    name: names::SENDER,
     value: "TEXT",
     help: Some(
         "Records whose message has this text in its senders, whatever the case of its letters",
@@ -94,14 +95,14 @@ pub const SENDER: Word = Word {
 };
 
 pub const RECIPIENT: Word = Word {
-    name: "recipient",
+    name: names::RECIPIENT,
     value: "TEXT",
     help: Some("Records whose message has this text in its recipients"),
     ..OPTION
 };
 
 pub const SUBJECT: Word = Word {
-    name: "subject",
+    name: names::SUBJECT,
     value: "TEXT",
     help: Some("Records whose message has this text in its subject"),
     ..OPTION

@@ -1,9 +1,8 @@
 //! What a command line asks of records: their numbers, and conditions that they meet.
 
 use super::numbers::{Numbers, first_asked, numbers_asked};
-use super::question_words as words;
+use super::names;
 use crate::reading::{NoCommand, day_of, has_flag, value_of};
-use crate::table::Word;
 use choice_words::{Choice, TypedChoice, VolumeNumber};
 use clap::ArgMatches;
 use jiff::civil::Date;
@@ -13,16 +12,16 @@ use std::alloc::Global;
 pub(super) fn day_asked(
     alloc: Global,
     asked: &ArgMatches<'_>,
-    word: &Word,
+    name: &str,
 ) -> Result<Option<Date>, NoCommand> {
-    let Some(text) = value_of(asked, *word) else {
+    let Some(text) = value_of(asked, name) else {
         return Ok(None);
     };
     match day_of(text) {
         Some(day) => Ok(Some(day)),
         None => Err(NoCommand::wrong_after(
             alloc,
-            *word,
+            name,
             text,
             "not a day of 1970 to 9999, written YYYY-MM-DD",
         )),
@@ -42,8 +41,8 @@ fn days_asked(
     alloc: Global,
     asked: &ArgMatches<'_>,
 ) -> Result<(Option<Date>, Option<Date>), NoCommand> {
-    let since = day_asked(alloc, asked, &words::SINCE)?;
-    let until = day_asked(alloc, asked, &words::UNTIL)?;
+    let since = day_asked(alloc, asked, names::SINCE)?;
+    let until = day_asked(alloc, asked, names::UNTIL)?;
     if is_backwards(since, until) {
         let reason = "the day of --until is before that of --since";
         return Err(NoCommand::Wrong(String::from_str(alloc, reason)?));
@@ -52,8 +51,8 @@ fn days_asked(
 }
 
 /// The text that is looked for, where it is given: without the white space at its ends, which no one sees who types it.
-fn text_asked<'a>(asked: &ArgMatches<'a>, word: Word) -> Option<&'a str> {
-    let text = value_of(asked, word)?;
+fn text_asked<'a>(asked: &ArgMatches<'a>, name: &str) -> Option<&'a str> {
+    let text = value_of(asked, name)?;
     Some(text.trim())
 }
 
@@ -63,17 +62,17 @@ fn conditions_of<'a>(alloc: Global, asked: &ArgMatches<'a>) -> Result<Choice<'a>
     Ok(Choice {
         numbers: Vec::new(alloc),
         from: 1,
-        class: value_of(asked, words::CLASS),
-        due: day_asked(alloc, asked, &words::DUE)?,
+        class: value_of(asked, names::CLASS),
+        due: day_asked(alloc, asked, names::DUE)?,
         since,
         until,
-        is_held: has_flag(asked, words::HELD),
-        is_live: has_flag(asked, words::LIVE),
-        is_destroyed: has_flag(asked, words::DESTROYED),
-        test: value_of(asked, words::WHERE),
-        sender: text_asked(asked, words::SENDER),
-        recipient: text_asked(asked, words::RECIPIENT),
-        subject: text_asked(asked, words::SUBJECT),
+        is_held: has_flag(asked, names::HELD),
+        is_live: has_flag(asked, names::LIVE),
+        is_destroyed: has_flag(asked, names::DESTROYED),
+        test: value_of(asked, names::WHERE),
+        sender: text_asked(asked, names::SENDER),
+        recipient: text_asked(asked, names::RECIPIENT),
+        subject: text_asked(asked, names::SUBJECT),
     })
 }
 

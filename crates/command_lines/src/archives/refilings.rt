@@ -2,7 +2,7 @@
 
 use super::holds::refusal;
 use super::questions::typed_of;
-use super::{ChosenTask, Command, class_words, history_words, words};
+use super::{ChosenTask, Command, names};
 use crate::reading::{NoCommand, has_flag, required};
 use clap::ArgMatches;
 use std::alloc::Global;
@@ -25,8 +25,8 @@ pub(super) fn refile_asked<'a>(
     alloc: Global,
     asked: &ArgMatches<'a>,
 ) -> Result<Command<'a>, NoCommand> {
-    let to = required(asked, class_words::TO)?;
-    if required(asked, history_words::REASON)?.is_empty() {
+    let to = required(asked, names::TO)?;
+    if required(asked, names::REASON)?.is_empty() {
         return Err(refusal(alloc, "refile needs a reason; give it by --reason TEXT")?);
     }
     let choice = typed_of(alloc, asked)?;
@@ -35,7 +35,7 @@ pub(super) fn refile_asked<'a>(
     }
     let refiling = Refiling {
         to,
-        is_agreed: has_flag(asked, words::YES),
+        is_agreed: has_flag(asked, names::YES),
     };
     Ok(Command::Chosen(choice, ChosenTask::Refile(refiling)))
 }

@@ -3,7 +3,7 @@
 ghost use Rattle.std.specs.Prelude.{◌≡◌, ◌*◌};
 ghost use Rattle.command_lines.specs.Sizes.{digits_in, size_typed, size_within, unit_in};
 
-use super::words;
+use super::names;
 use crate::reading::{NoCommand, value_of};
 use clap::ArgMatches;
 use session_words::read_number;
@@ -52,14 +52,14 @@ fn read_size(word: &[u8]) -> Option<u64>
 
 /// The size of the volumes of a new archive, where one of volumes is asked for.
 pub(super) fn size_asked(alloc: Global, asked: &ArgMatches<'_>) -> Result<Option<u64>, NoCommand> {
-    let Some(word) = value_of(asked, words::ROLL) else {
+    let Some(word) = value_of(asked, names::ROLL) else {
         return Ok(None);
     };
     match read_size(word.as_bytes()) {
         Some(size) => Ok(Some(size)),
         None => Err(NoCommand::wrong_after(
             alloc,
-            words::ROLL,
+            names::ROLL,
             word,
             "not a size of 1M to 1024G, as 32M",
         )),

@@ -8,12 +8,13 @@ use super::history_words::{
     REQUIRE_REASON, WAIVE_REASON,
 };
 use super::import_words::{AGAIN, AS_IS, DATED, SOURCES, VERBOSE};
+use super::names;
 use super::question_words::{CONDITIONS, FROM, HINTS, NUMBER, NUMBERS};
 use crate::table::{FLAG, OPTION, PLACE, Program, Subcommand, Word};
 use std::alloc::{AllocError, Global};
 
 pub const STORE: Word = Word {
-    name: "store",
+    name: names::STORE,
     value: "FILE",
     is_required: true,
     help: Some("The file of the store, or the folder of its volumes"),
@@ -21,7 +22,7 @@ pub const STORE: Word = Word {
 };
 
 pub const PLAN_FILE: Word = Word {
-    name: "plan",
+    name: names::PLAN_FILE,
     value: "PLAN",
     is_required: true,
     substitute: Some("adopt"),
@@ -32,7 +33,7 @@ pub const PLAN_FILE: Word = Word {
 
 /// A store that becomes the first volume of a new one.
 pub const ADOPT: Word = Word {
-    name: "adopt",
+    name: names::ADOPT,
     value: "FILE",
     help: Some(
         "With --roll: moves the store in this file, which keeps its plan and its history, to the folder as its first volume",
@@ -42,7 +43,7 @@ pub const ADOPT: Word = Word {
 
 /// The size of the volumes of a new store.
 pub const ROLL: Word = Word {
-    name: "roll",
+    name: names::ROLL,
     value: "SIZE",
     help: Some(
         "Makes a folder of volumes instead, each a file of about this size, as 32M; the next one begins where the last is over it",
@@ -59,18 +60,18 @@ const CREATE: Subcommand = Subcommand {
 };
 
 pub const YES: Word = Word {
-    name: "yes",
+    name: names::YES,
     ..FLAG
 };
 
 pub const DAY: Word = Word {
-    name: "day",
+    name: names::DAY,
     value: "YYYY-MM-DD",
     ..OPTION
 };
 
 pub const NEW_PLAN: Word = Word {
-    name: "set",
+    name: names::NEW_PLAN,
     value: "PLAN",
     help: Some("The file of the plan that replaces it"),
     ..OPTION
@@ -153,38 +154,38 @@ const IMPORT: Subcommand = Subcommand {
 };
 
 pub const HEADERS: Word = Word {
-    name: "headers",
+    name: names::HEADERS,
     help: Some("Adds the sender, the subject and the date of each message's header"),
     ..FLAG
 };
 
 pub const ONLY_NUMBERS: Word = Word {
-    name: "numbers",
+    name: names::ONLY_NUMBERS,
     help: Some("Prints the numbers alone, a line each"),
     ..FLAG
 };
 
 pub const COUNT: Word = Word {
-    name: "count",
+    name: names::COUNT,
     help: Some("Prints how many records there are"),
     ..FLAG
 };
 
 pub const CSV: Word = Word {
-    name: "csv",
+    name: names::CSV,
     help: Some("Prints rows of CSV, with a header"),
     ..FLAG
 };
 
 pub const JSON: Word = Word {
-    name: "json",
+    name: names::JSON,
     help: Some("Prints an array of JSON objects"),
     conflict: Some("csv"),
     ..FLAG
 };
 
 pub const TWICE: Word = Word {
-    name: "twice",
+    name: names::TWICE,
     help: Some(
         "Records that are not destroyed whose message was captured a second time, octet by octet, together with those of the other one",
     ),
@@ -210,7 +211,7 @@ const LIST: Subcommand = Subcommand {
 };
 
 pub const FIELDS: Word = Word {
-    name: "fields",
+    name: names::FIELDS,
     help: Some("Prints the fields of its header, as the archive reads them"),
     ..FLAG
 };
@@ -224,7 +225,7 @@ const SHOW: Subcommand = Subcommand {
 };
 
 pub const SORT: Word = Word {
-    name: "sort",
+    name: names::SORT,
     value: "ORDER",
     help: Some(
         "The order of index.html: number, date (that of the header) or sender; by number if none is given",
@@ -233,7 +234,7 @@ pub const SORT: Word = Word {
 };
 
 pub const FOLDER: Word = Word {
-    name: "folder",
+    name: names::FOLDER,
     value: "FOLDER",
     help: Some("The folder of the export, which is made where there is none"),
     ..PLACE
@@ -248,14 +249,14 @@ const EXPORT: Subcommand = Subcommand {
 };
 
 pub const NEW: Word = Word {
-    name: "new",
+    name: names::NEW,
     value: "NEW",
     help: Some("The file of the new store"),
     ..PLACE
 };
 
 pub const DAMAGED: Word = Word {
-    name: "damaged",
+    name: names::DAMAGED,
     help: Some("Copies messages too that are not the ones that were captured, as they are"),
     ..FLAG
 };
@@ -292,7 +293,7 @@ const CHECK: Subcommand = Subcommand {
 };
 
 pub const FORMERLY: Word = Word {
-    name: "formerly",
+    name: names::FORMERLY,
     value: "FOLDER",
     help: Some(
         "The folder of the rules as they were: shows the first test or command that differs",
@@ -319,7 +320,7 @@ const WHY: Subcommand = Subcommand {
 
 /// The name of a hold.
 pub const NAME: Word = Word {
-    name: "name",
+    name: names::NAME,
     value: "NAME",
     help: Some(
         "The name of the hold, as audit: 1 to 64 visible characters of ASCII, no blank; a new one may not read as numbers, as 12",
@@ -336,7 +337,7 @@ const HOLD: Subcommand = Subcommand {
 };
 
 pub const ALL: Word = Word {
-    name: "all",
+    name: names::ALL,
     help: Some("Ends the hold on each record that has it: lists these records, and asks"),
     ..FLAG
 };

@@ -1,10 +1,11 @@
 //! The subcommands of `mailfile-tool`, each with its words and an example.
 
+use super::names;
 use crate::table::{FLAG, Form, OPTION, PLACE, Program, Subcommand, Word};
 use std::alloc::{AllocError, Global};
 
 pub const PERSONAL: Word = Word {
-    name: "personal",
+    name: names::PERSONAL,
     value: "DIR",
     help: Some("The officer's own scripts, NAME.sieve each"),
     conflict: Some("rules"),
@@ -12,7 +13,7 @@ pub const PERSONAL: Word = Word {
 };
 
 pub const GLOBAL: Word = Word {
-    name: "global",
+    name: names::GLOBAL,
     value: "DIR",
     help: Some("The scripts that every officer can include, NAME.sieve each"),
     conflict: Some("rules"),
@@ -21,7 +22,7 @@ pub const GLOBAL: Word = Word {
 
 /// The folder of all rules.
 pub const RULES: Word = Word {
-    name: "rules",
+    name: names::RULES,
     value: "FOLDER",
     help: Some(
         "The folder of all rules, as of mailfile-store deliver: OFFICER/main.sieve, and global/NAME.sieve for all officers; an officer is named in place of a script",
@@ -30,19 +31,19 @@ pub const RULES: Word = Word {
 };
 
 pub const SCRIPT: Word = Word {
-    name: "script",
+    name: names::SCRIPT,
     value: "SCRIPT",
     ..PLACE
 };
 
 pub const IMAGE: Word = Word {
-    name: "image",
+    name: names::IMAGE,
     value: "IMAGE",
     ..PLACE
 };
 
 pub const COMMANDS: Word = Word {
-    name: "file",
+    name: names::COMMANDS,
     value: "FILE",
     is_required: false,
     help: Some("The file of commands; standard input if none is given"),
@@ -59,20 +60,20 @@ const FRAME: Subcommand = Subcommand {
 
 /// The script that was refused.
 pub const REFUSED: Word = Word {
-    name: "script",
+    name: names::REFUSED,
     value: "FILE",
     help: Some("The script that was refused: offsets in it are shown as line and column"),
     ..OPTION
 };
 
 pub const NUMBERS: Word = Word {
-    name: "numbers",
+    name: names::NUMBERS,
     help: Some("Prints the texts of all numbers, and reads nothing"),
     ..FLAG
 };
 
 pub const NUMBER: Word = Word {
-    name: "number",
+    name: names::NUMBER,
     value: "NUMBER",
     is_required: false,
     help: Some("Prints the texts of this number, and reads nothing"),
@@ -88,7 +89,7 @@ const EXPLAIN: Subcommand = Subcommand {
 };
 
 pub const FILES: Word = Word {
-    name: "files",
+    name: names::FILES,
     form: Form::Places,
     value: "FILE",
     is_required: false,
@@ -98,7 +99,7 @@ pub const FILES: Word = Word {
 
 /// The plan that a new one is to replace.
 pub const PRESENT_PLAN: Word = Word {
-    name: "plan",
+    name: names::PRESENT_PLAN,
     value: "FILE",
     help: Some(
         "The present plan: classes that it does not have, or that are closed, are faults of a script, and those that a plan leaves out are faults of the plan",
@@ -115,6 +116,7 @@ const CHECK: Subcommand = Subcommand {
 };
 
 pub const OUTPUT: Word = Word {
+    name: names::OUTPUT,
     form: Form::Letter('o'),
     help: Some("The file that the image is written to"),
     ..IMAGE
@@ -137,41 +139,41 @@ const DUMP: Subcommand = Subcommand {
 };
 
 pub const MESSAGE: Word = Word {
-    name: "message",
+    name: names::MESSAGE,
     value: "MESSAGE",
     is_required: false,
     ..PLACE
 };
 
 pub const PLAN: Word = Word {
-    name: "plan",
+    name: names::PLAN,
     value: "FILE",
     help: Some("The plan; without it the only class is unfiled"),
     ..OPTION
 };
 
 pub const DAY: Word = Word {
-    name: "day",
+    name: names::DAY,
     value: "YYYY-MM-DD",
     help: Some("The day of the capture, from which due dates are counted; today if none is given"),
     ..OPTION
 };
 
 pub const STEPS: Word = Word {
-    name: "steps",
+    name: names::STEPS,
     help: Some("Shows the steps of the script's image in place of its source"),
     ..FLAG
 };
 
 pub const JSON: Word = Word {
-    name: "json",
+    name: names::JSON,
     help: Some("Writes the whole as one line of JSON"),
     ..FLAG
 };
 
 /// The image that is run in place of a script.
 pub const RUN: Word = Word {
-    name: "image",
+    name: names::RUN,
     value: "FILE",
     help: Some(
         "Runs this image in place of a script, and shows its steps; only a message is named",
@@ -192,7 +194,7 @@ const WHY: Subcommand = Subcommand {
 
 /// The domains of recipients.
 pub const DOMAINS: Word = Word {
-    name: "domains",
+    name: names::DOMAINS,
     form: Form::Places,
     value: "DOMAIN",
     help: Some("A domain of their addresses, as records.example.org"),
