@@ -290,7 +290,7 @@ fn format_asked(alloc: Global, asked: &ArgMatches<'_>) -> Result<Format, NoComma
         if has_flag(asked, name) {
             if format.is_some() {
                 let reason = "--csv, --json, --numbers and --count cannot be used together";
-                return Err(NoCommand::Wrong(String::from_str(alloc, reason)?));
+                return Err(NoCommand::refused(alloc, reason));
             }
             format = Some(*named);
         }
@@ -304,7 +304,7 @@ fn listing_asked(alloc: Global, asked: &ArgMatches<'_>) -> Result<Listing, NoCom
     let headers = has_flag(asked, names::HEADERS);
     if headers && matches!(format, Format::Numbers | Format::Count) {
         let reason = "--headers cannot be used with --numbers or --count";
-        return Err(NoCommand::Wrong(String::from_str(alloc, reason)?));
+        return Err(NoCommand::refused(alloc, reason));
     }
     Ok(Listing {
         format,
@@ -318,13 +318,13 @@ fn list_asked<'a>(alloc: Global, asked: &ArgMatches<'a>) -> Result<Command<'a>, 
     let choice = choice_asked(alloc, asked)?;
     let listing = listing_asked(alloc, asked)?;
     if !has_flag(asked, names::TWICE) {
-        return Ok(Command::Chosen(choice, ChosenTask::List(listing)));
+        Ok(Command::Chosen(choice, ChosenTask::List(listing)))
+    } else if choice.is_empty() {
+        Ok(Command::Twice(listing))
+    } else {
+        let reason = "--twice looks at all messages; it takes no numbers and no conditions";
+        Err(NoCommand::refused(alloc, reason))
     }
-    if choice.is_empty() {
-        return Ok(Command::Twice(listing));
-    }
-    let reason = "--twice looks at all messages; it takes no numbers and no conditions";
-    Err(NoCommand::Wrong(String::from_str(alloc, reason)?))
 }
 
 /// How the index of an export is sorted: by number, where nothing is said.
@@ -384,10 +384,7 @@ fn plan_asked<'a>(alloc: Global, asked: &ArgMatches<'a>) -> Result<Command<'a>, 
     let is_agreed = has_flag(asked, names::YES);
     match value_of(asked, names::NEW_PLAN) {
         Some(plan) => Ok(Command::ReplacePlan { plan, is_agreed }),
-        None if is_agreed => Err(NoCommand::Wrong(String::from_str(
-            alloc,
-            "--yes needs the plan of --set",
-        )?)),
+        None if is_agreed => Err(NoCommand::refused(alloc, "--yes needs the plan of --set")),
         None => Ok(Command::WritePlan),
     }
 }
@@ -423,10 +420,7 @@ fn check_asked<'a>(alloc: Global, asked: &ArgMatches<'a>) -> Result<Command<'a>,
     let officer = value_of(asked, names::OFFICER);
     match value_of(asked, names::RULES) {
         Some(rules) => Ok(Command::CheckRules(RulesChecked { rules, officer })),
-        None if officer.is_some() => Err(NoCommand::Wrong(String::from_str(
-            alloc,
-            "an officer needs the folder of --rules",
-        )?)),
+        None if officer.is_some() => Err(NoCommand::refused(alloc, "an officer needs the folder of --rules")),
         None => Ok(Command::Check {
             head: head_asked(alloc, asked)?,
         }),
@@ -448,10 +442,7 @@ fn create_asked<'a>(alloc: Global, asked: &ArgMatches<'a>) -> Result<Command<'a>
     let size = size_asked(alloc, asked)?;
     match (value_of(asked, names::ADOPT), size) {
         (Some(file), Some(size)) => Ok(Command::Adopt { file, size }),
-        (Some(_), None) => Err(NoCommand::Wrong(String::from_str(
-            alloc,
-            "--adopt needs the size of --roll",
-        )?)),
+        (Some(_), None) => Err(NoCommand::refused(alloc, "--adopt needs the size of --roll")),
         (None, size) => Ok(Command::Create {
             plan: required(asked, names::PLAN_FILE)?,
             size,
@@ -459,77 +450,40 @@ fn create_asked<'a>(alloc: Global, asked: &ArgMatches<'a>) -> Result<Command<'a>
     }
 }
 
-/// A subcommand that makes an archive or changes what it keeps, where the name is that of one.
-fn change_asked<'a>(
-    alloc: Global,
-    name: &str,
-    asked: &ArgMatches<'a>,
-) -> Result<Option<Command<'a>>, NoCommand> {
-    Ok(Some(match name {
-        "create" => create_asked(alloc, asked)?,
-        "plan" => plan_asked(alloc, asked)?,
-        "deliver" => Command::Deliver {
-            filing: filing_asked(alloc, asked)?,
-            is_as_is: has_flag(asked, names::AS_IS),
-        },
-        "intake" => intake_asked(alloc, asked)?,
-        "import" => Command::Import(import_asked(alloc, asked)?),
-        "dispose" => {
-            let typed = disposal_asked(alloc, asked)?;
-            Command::Dispose(approved_asked(alloc, asked, typed)?)
-        }
-        _ => return Ok(None),
-    }))
+/// What is exported, and where to.
+fn export_asked<'a>(alloc: Global, asked: &ArgMatches<'a>) -> Result<Command<'a>, NoCommand> {
+    let target = target_asked(alloc, asked)?;
+    let choice = choice_asked(alloc, asked)?;
+    Ok(Command::Chosen(choice, ChosenTask::Export(target)))
 }
 
-/// A subcommand that reads an archive, where the name is that of one.
-fn reading_asked<'a>(
-    alloc: Global,
-    name: &str,
-    asked: &ArgMatches<'a>,
-) -> Result<Option<Command<'a>>, NoCommand> {
-    Ok(Some(match name {
-        "show" => Command::Show {
-            record: record_asked(alloc, asked)?,
-            fields: has_flag(asked, names::FIELDS),
-        },
-        "copy" => copy_asked(alloc, asked)?,
-        "check" => check_asked(alloc, asked)?,
-        "history" => Command::History(history_asked(alloc, asked)?),
-        "certificates" => Command::Certificates {
-            numbers: numbers_asked(alloc, asked)?,
-        },
-        "holds" => Command::Holds {
-            is_json: has_flag(asked, names::JSON),
-        },
-        "titles" => titles_asked(asked),
-        "why" => Command::Why(why_asked(alloc, asked)?),
-        _ => return Ok(None),
-    }))
+/// What a page of HTML is written on.
+fn report_asked<'a>(alloc: Global, asked: &ArgMatches<'a>) -> Result<Command<'a>, NoCommand> {
+    let day = day_asked(alloc, asked, names::DAY)?;
+    let choice = conditions_asked(alloc, asked)?;
+    Ok(Command::Chosen(choice, ChosenTask::Report { day }))
 }
 
-/// A subcommand that does something with the records of a choice, where the name is that of one.
-fn chosen_asked<'a>(
-    alloc: Global,
-    name: &str,
-    asked: &ArgMatches<'a>,
-) -> Result<Option<Command<'a>>, NoCommand> {
-    let (choice, task) = match name {
-        "list" => return Ok(Some(list_asked(alloc, asked)?)),
-        "export" => {
-            let target = target_asked(alloc, asked)?;
-            (choice_asked(alloc, asked)?, ChosenTask::Export(target))
-        }
-        "hold" => return Ok(Some(hold_asked(alloc, asked)?)),
-        "release" => return Ok(Some(release_asked(alloc, asked)?)),
-        "refile" => return Ok(Some(refile_asked(alloc, asked)?)),
-        "report" => {
-            let day = day_asked(alloc, asked, names::DAY)?;
-            (conditions_asked(alloc, asked)?, ChosenTask::Report { day })
-        }
-        _ => return Ok(None),
-    };
-    Ok(Some(Command::Chosen(choice, task)))
+/// What is destroyed, or listed as what may be.
+fn dispose_asked<'a>(alloc: Global, asked: &ArgMatches<'a>) -> Result<Command<'a>, NoCommand> {
+    let typed = disposal_asked(alloc, asked)?;
+    Ok(Command::Dispose(approved_asked(alloc, asked, typed)?))
+}
+
+/// The record whose message is written.
+fn show_asked<'a>(alloc: Global, asked: &ArgMatches<'a>) -> Result<Command<'a>, NoCommand> {
+    Ok(Command::Show {
+        record: record_asked(alloc, asked)?,
+        fields: has_flag(asked, names::FIELDS),
+    })
+}
+
+/// How the message on standard input is captured.
+fn deliver_asked<'a>(alloc: Global, asked: &ArgMatches<'a>) -> Result<Command<'a>, NoCommand> {
+    Ok(Command::Deliver {
+        filing: filing_asked(alloc, asked)?,
+        is_as_is: has_flag(asked, names::AS_IS),
+    })
 }
 
 /// What the subcommand of a name is asked to do.
@@ -538,12 +492,32 @@ fn command_asked<'a>(
     name: &str,
     asked: &ArgMatches<'a>,
 ) -> Result<Command<'a>, NoCommand> {
-    if let Some(command) = chosen_asked(alloc, name, asked)? {
-        return Ok(command);
-    }
-    match change_asked(alloc, name, asked)? {
-        Some(command) => Ok(command),
-        None => reading_asked(alloc, name, asked)?.ok_or(NoCommand::Unread),
+    match name {
+        "create" => create_asked(alloc, asked),
+        "plan" => plan_asked(alloc, asked),
+        "deliver" => deliver_asked(alloc, asked),
+        "intake" => intake_asked(alloc, asked),
+        "import" => Ok(Command::Import(import_asked(alloc, asked)?)),
+        "list" => list_asked(alloc, asked),
+        "show" => show_asked(alloc, asked),
+        "export" => export_asked(alloc, asked),
+        "copy" => copy_asked(alloc, asked),
+        "check" => check_asked(alloc, asked),
+        "why" => Ok(Command::Why(why_asked(alloc, asked)?)),
+        "hold" => hold_asked(alloc, asked),
+        "release" => release_asked(alloc, asked),
+        "refile" => refile_asked(alloc, asked),
+        "dispose" => dispose_asked(alloc, asked),
+        "report" => report_asked(alloc, asked),
+        "holds" => Ok(Command::Holds {
+            is_json: has_flag(asked, names::JSON),
+        }),
+        "titles" => Ok(titles_asked(asked)),
+        "history" => Ok(Command::History(history_asked(alloc, asked)?)),
+        "certificates" => Ok(Command::Certificates {
+            numbers: numbers_asked(alloc, asked)?,
+        }),
+        _ => Err(NoCommand::Unread),
     }
 }
 

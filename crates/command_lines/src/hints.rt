@@ -13,10 +13,15 @@ fn argument_of(report: &str) -> Option<&str> {
 
 /// Whether an option, written with its hyphens, is one of some words.
 fn is_among(option: &str, words: &[Word]) -> bool {
-    match option.strip_prefix("--") {
-        Some(name) => words.iter().any(|word| word.name == name),
-        None => false,
+    let Some(name) = option.strip_prefix("--") else {
+        return false;
+    };
+    for word in words {
+        if word.name == name {
+            return true;
+        }
     }
+    false
 }
 
 /// Whether a subcommand of a program has an option.

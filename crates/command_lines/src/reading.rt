@@ -34,6 +34,14 @@ pub(crate) fn seen(typed: &str) -> &str {
 }
 
 impl NoCommand {
+    /// The refusal for a reason.
+    pub(crate) fn refused(alloc: Global, reason: &str) -> NoCommand {
+        match String::from_str(alloc, reason) {
+            Ok(text) => NoCommand::Wrong(text),
+            Err(_) => NoCommand::NoMemory,
+        }
+    }
+
     /// The refusal of a value as it is typed, with the reason.
     pub(crate) fn wrong(alloc: Global, typed: &str, reason: &str) -> NoCommand {
         match format!(in alloc; "{}: {reason}", seen(typed)) {
@@ -72,18 +80,24 @@ pub fn words_of_process(rt: &HostRuntime) -> Result<Vec<String>, NoCommand> {
     }
 }
 
-/// What `clap` reports. A hidden character in it, which only a word of the command line can have, is shown by its number.
-fn report_of(alloc: Global, error: &Error) -> Result<Shown, AllocError> {
-    let report = error.to_string(alloc)?;
-    let mut text = Shown::new(alloc);
+/// Adds the lines of what `clap` reports.
+fn push_report(text: &mut Shown, error: &Error, report: &str) -> Result<(), AllocError> {
     for line in report.lines() {
         if error.use_stderr() {
             text.value(&line)?;
             text.end_line()?;
         } else {
-            push_wrapped(&mut text, line)?;
+            push_wrapped(text, line)?;
         }
     }
+    Ok(())
+}
+
+/// What `clap` reports. A hidden character in it, which only a word of the command line can have, is shown by its number.
+fn report_of(alloc: Global, error: &Error) -> Result<Shown, AllocError> {
+    let report = error.to_string(alloc)?;
+    let mut text = Shown::new(alloc);
+    push_report(&mut text, error, report.as_str())?;
     Ok(text)
 }
 
@@ -115,31 +129,16 @@ pub(crate) fn shown_words(alloc: Global, words: &[String]) -> Result<Vec<String>
     Ok(shown)
 }
 
-/// Words, and the command that reads them.
-#[derive(Drop)]
-pub(crate) struct Line<'a> {
-    pub command: Command<'a>,
-    pub words: &'a [String],
-}
-
 /// Prints what `clap` reports of words as they are shown, which are none of a command's.
-fn tell_refusal(rt: &HostRuntime, shown: Line<'_>) -> NoCommand {
-    match shown.command.try_get_matches_from(shown.words) {
+pub(crate) fn tell_refusal(
+    rt: &HostRuntime,
+    command: Command<'_>,
+    shown: &[String],
+) -> NoCommand {
+    match command.try_get_matches_from(shown) {
         Ok(_) => NoCommand::Unread,
         Err(error) => tell_report(rt, &error),
     }
-}
-
-/// Reads a line, and prints what `clap` reports where its words are none of the command's. That is told of the words as they
-/// are shown, since a line end in a word would begin a line of the report.
-pub(crate) fn read_by<'a>(
-    rt: &HostRuntime,
-    line: Line<'a>,
-    shown: Line<'_>,
-) -> Result<ArgMatches<'a>, NoCommand> {
-    line.command
-        .try_get_matches_from(line.words)
-        .map_err(|_| tell_refusal(rt, shown))
 }
 
 /// What a program says of words that `clap` refuses: of an argument that is none of their subcommand's, whose name is the first
@@ -177,11 +176,8 @@ fn refusal_of(
         return Ok(NoCommand::Wrong(text));
     }
     let shown = shown_words(alloc, words)?;
-    let told = Line {
-        command: command_of(alloc, program)?,
-        words: shown.as_slice(),
-    };
-    Ok(tell_refusal(rt, told))
+    let command = command_of(alloc, program)?;
+    Ok(tell_refusal(rt, command, shown.as_slice()))
 }
 
 /// Reads words by the table of a program. Where they are none of its, and the program has no hint on them, what `clap` reports
@@ -204,7 +200,10 @@ pub(crate) fn value_of<'a>(asked: &ArgMatches<'a>, name: &str) -> Option<&'a str
 
 /// The value of the word of a name, which must be given.
 pub(crate) fn required<'a>(asked: &ArgMatches<'a>, name: &str) -> Result<&'a str, NoCommand> {
-    value_of(asked, name).ok_or(NoCommand::Unread)
+    match value_of(asked, name) {
+        Some(value) => Ok(value),
+        None => Err(NoCommand::Unread),
+    }
 }
 
 /// The values of the word of a name, in the order in which they are given, if any is.
@@ -219,8 +218,13 @@ pub(crate) fn has_flag(asked: &ArgMatches<'_>, name: &str) -> bool {
 
 /// The number of a word of exactly `count` decimal digits.
 fn digits(word: &str, count: usize) -> Option<i16> {
-    if word.len() != count || !word.bytes().all(|octet| octet.is_ascii_digit()) {
+    if word.len() != count {
         return None;
+    }
+    for octet in word.as_bytes() {
+        if !octet.is_ascii_digit() {
+            return None;
+        }
     }
     word.parse().ok()
 }
@@ -229,7 +233,10 @@ fn digits(word: &str, count: usize) -> Option<i16> {
 pub(crate) fn day_of(text: &str) -> Option<Date> {
     let (year, rest) = text.split_once('-')?;
     let (month, day) = rest.split_once('-')?;
-    let year = digits(year, 4).filter(|year| *year >= 1970)?;
+    let year = digits(year, 4)?;
+    if year < 1970 {
+        return None;
+    }
     let month = i8::try_from(digits(month, 2)?).ok()?;
     let day = i8::try_from(digits(day, 2)?).ok()?;
     Date::new(year, month, day).ok()

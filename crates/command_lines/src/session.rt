@@ -1,7 +1,7 @@
 //! The command line of `mailfile`, the program of sessions.
 
-use crate::reading::{Line, NoCommand, read_by, shown_words, value_of, words_of_process};
-use crate::table::{OPTION, Word, argument_of, bare_command};
+use crate::reading::{NoCommand, shown_words, tell_refusal, value_of, words_of_process};
+use crate::table::{OPTION, Word, arguments_of, bare_command};
 use clap::{ArgMatches, Command};
 use std::alloc::{AllocError, Global};
 use std::process::ExitCode;
@@ -12,12 +12,13 @@ const STATUS_USAGE: u8 = 2;
 /// The name of the option of the store.
 const STORE: &str = "store";
 
-static STORE_OPTION: Word = Word {
+/// The words of the command line.
+const WORDS: &[Word] = &[Word {
     name: STORE,
     value: "FILE",
     help: Some("The file that keeps the store; without it the store is in memory"),
     ..OPTION
-};
+}];
 
 /// The options of a command line.
 #[derive(Drop)]
@@ -28,24 +29,17 @@ pub struct CommandLine {
 
 /// The command line as `clap` is to parse it.
 fn command<'a>(alloc: Global) -> Result<Command<'a>, AllocError> {
+    let arguments = arguments_of(alloc, WORDS, &[])?;
     bare_command(
         alloc,
         "mailfile",
         "Files e-mail as records: serves a session from standard input to standard output",
     )?
-    .arg(argument_of(alloc, &STORE_OPTION)?)
-}
-
-/// Some words, and the command that reads them.
-fn line_of<'a>(alloc: Global, words: &'a [String]) -> Result<Line<'a>, AllocError> {
-    Ok(Line {
-        command: command(alloc)?,
-        words,
-    })
+    .args(arguments)
 }
 
 /// The options that were found.
-fn options_in(alloc: Global, matches: &ArgMatches<'_>) -> Result<CommandLine, AllocError> {
+fn options_in(alloc: Global, matches: &ArgMatches<'_>) -> Result<CommandLine, NoCommand> {
     let store = match value_of(matches, STORE) {
         Some(path) => Some(String::from_str(alloc, path)?),
         None => None,
@@ -53,17 +47,18 @@ fn options_in(alloc: Global, matches: &ArgMatches<'_>) -> Result<CommandLine, Al
     Ok(CommandLine { store })
 }
 
-/// Reads words, which are told of as they are shown.
+/// Reads words. What `clap` reports of them is told of them as they are shown, since a line end in a word would begin a line of
+/// the report.
 fn read_words(
     rt: &HostRuntime,
     words: &[String],
     shown: &[String],
 ) -> Result<CommandLine, NoCommand> {
     let alloc = rt.alloc();
-    let line = line_of(alloc, words)?;
-    let told = line_of(alloc, shown)?;
-    let matches = read_by(rt, line, told)?;
-    Ok(options_in(alloc, &matches)?)
+    if let Ok(matches) = command(alloc)?.try_get_matches_from(words) {
+        return options_in(alloc, &matches);
+    }
+    Err(tell_refusal(rt, command(alloc)?, shown))
 }
 
 /// Reads the command line of the process. Help, and why a word is refused, are printed.

@@ -170,7 +170,7 @@ fn needed<'a>(argument: Arg<'a>, word: &Word) -> Result<Arg<'a>, AllocError> {
 }
 
 /// The argument that a word is.
-pub fn argument_of<'a>(alloc: Global, word: &Word) -> Result<Arg<'a>, AllocError> {
+fn argument_of<'a>(alloc: Global, word: &Word) -> Result<Arg<'a>, AllocError> {
     let argument = Arg::new(alloc, word.name).action(action_of(word.form));
     let argument = helped(formed(needed(argument, word)?, word), word);
     match word.conflict {
@@ -179,27 +179,28 @@ pub fn argument_of<'a>(alloc: Global, word: &Word) -> Result<Arg<'a>, AllocError
     }
 }
 
-/// Adds a word to a subcommand.
-fn with_word<'a>(
+/// Adds the arguments that words are to others.
+fn add_arguments<'a>(
     alloc: Global,
-    command: Command<'a>,
-    word: &Word,
-) -> Result<Command<'a>, AllocError> {
-    let argument = argument_of(alloc, word)?;
-    command.arg(argument)
+    arguments: &mut Vec<Arg<'a>>,
+    words: &[Word],
+) -> Result<(), AllocError> {
+    for word in words {
+        arguments.push(argument_of(alloc, word)?)?;
+    }
+    Ok(())
 }
 
-/// Adds words to a subcommand.
-fn with_words<'a>(
+/// The arguments that words are, and after them those that shared words are.
+pub fn arguments_of<'a>(
     alloc: Global,
-    command: Command<'a>,
     words: &[Word],
-) -> Result<Command<'a>, AllocError> {
-    let mut command = command;
-    for word in words {
-        command = with_word(alloc, command, word)?;
-    }
-    Ok(command)
+    shared: &[Word],
+) -> Result<Vec<Arg<'a>>, AllocError> {
+    let mut arguments = Vec::new(alloc);
+    add_arguments(alloc, &mut arguments, words)?;
+    add_arguments(alloc, &mut arguments, shared)?;
+    Ok(arguments)
 }
 
 /// A subcommand with its words.
@@ -208,40 +209,34 @@ fn subcommand_of<'a>(
     described: &Subcommand,
     shared: &[Word],
 ) -> Result<Command<'a>, AllocError> {
-    let command = Command::new(alloc, described.name)
+    let shared = if described.has_shared { shared } else { &[] };
+    let arguments = arguments_of(alloc, described.words, shared)?;
+    Command::new(alloc, described.name)
         .about(described.about)
-        .after_help(described.example);
-    let command = with_words(alloc, command, described.words)?;
-    if described.has_shared {
-        with_words(alloc, command, shared)
-    } else {
-        Ok(command)
-    }
+        .after_help(described.example)
+        .args(arguments)
 }
 
-/// Adds a subcommand to a program.
-fn with_subcommand<'a>(
+/// Adds the subcommands of a group to others.
+fn add_subcommands<'a>(
     alloc: Global,
-    command: Command<'a>,
-    described: &Subcommand,
-    shared: &[Word],
-) -> Result<Command<'a>, AllocError> {
-    let subcommand = subcommand_of(alloc, described, shared)?;
-    command.subcommand(subcommand)
-}
-
-/// Adds subcommands to a program.
-fn with_subcommands<'a>(
-    alloc: Global,
-    command: Command<'a>,
+    subcommands: &mut Vec<Command<'a>>,
     group: &[Subcommand],
     shared: &[Word],
-) -> Result<Command<'a>, AllocError> {
-    let mut command = command;
+) -> Result<(), AllocError> {
     for described in group {
-        command = with_subcommand(alloc, command, described, shared)?;
+        subcommands.push(subcommand_of(alloc, described, shared)?)?;
     }
-    Ok(command)
+    Ok(())
+}
+
+/// The subcommands of a program.
+fn subcommands_of<'a>(alloc: Global, program: &Program) -> Result<Vec<Command<'a>>, AllocError> {
+    let mut subcommands = Vec::new(alloc);
+    for group in &program.groups {
+        add_subcommands(alloc, &mut subcommands, *group, program.shared)?;
+    }
+    Ok(subcommands)
 }
 
 /// A command line that has no words yet. `--help` names the program so, whatever the name of its file is.
@@ -258,9 +253,8 @@ pub fn bare_command<'a>(
 
 /// The whole command line of a program. The only error is out of memory.
 pub fn command_of<'a>(alloc: Global, program: &Program) -> Result<Command<'a>, AllocError> {
-    let mut command = bare_command(alloc, program.name, program.about)?.subcommand_required(true);
-    for group in &program.groups {
-        command = with_subcommands(alloc, command, *group, program.shared)?;
-    }
-    Ok(command)
+    let subcommands = subcommands_of(alloc, program)?;
+    bare_command(alloc, program.name, program.about)?
+        .subcommand_required(true)
+        .subcommands(subcommands)
 }

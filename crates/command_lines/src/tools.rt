@@ -7,7 +7,7 @@ use crate::reading::{NoCommand, day_of, has_flag, read_words, required, value_of
 use clap::ArgMatches;
 use jiff::civil::Date;
 use session_words::read_number;
-use std::alloc::{AllocError, Global};
+use std::alloc::Global;
 
 /// The last year in which a message can be captured.
 const LAST_YEAR: i16 = 2199;
@@ -135,11 +135,6 @@ pub enum Format {
     Steps,
 }
 
-/// A refusal in these words.
-fn wrong(alloc: Global, words: &str) -> Result<NoCommand, AllocError> {
-    Ok(NoCommand::Wrong(String::from_str(alloc, words)?))
-}
-
 /// The folders of the scripts that can be included.
 fn folders_asked<'a>(asked: &ArgMatches<'a>) -> Folders<'a> {
     Folders {
@@ -158,7 +153,8 @@ fn place_asked<'a>(asked: &ArgMatches<'a>) -> Place<'a> {
 
 /// The number that is typed, in decimal digits without a leading zero.
 fn number_of(word: &str) -> Option<u8> {
-    read_number(word.as_bytes(), u64::from(u8::MAX)).and_then(|number| u8::try_from(number).ok())
+    let number = read_number(word.as_bytes(), u64::from(u8::MAX))?;
+    u8::try_from(number).ok()
 }
 
 /// What is explained: all numbers rather than one, and one rather than replies.
@@ -182,10 +178,7 @@ fn check_asked<'a>(alloc: Global, asked: &ArgMatches<'a>) -> Result<Check<'a>, N
     let files = values_of(asked, names::FILES).unwrap_or(&[]);
     let place = place_asked(asked);
     if let (Place::Folders(_), true) = (place, files.is_empty()) {
-        return Err(wrong(
-            alloc,
-            "check takes scripts, and plans by the ending .toml; or with --rules officers",
-        )?);
+        return Err(NoCommand::refused(alloc, "check takes scripts, and plans by the ending .toml; or with --rules officers"));
     }
     Ok(Check {
         files: Vec::from_slice(alloc, files)?,
@@ -219,7 +212,7 @@ fn day_asked(alloc: Global, asked: &ArgMatches<'_>) -> Result<Option<Date>, NoCo
     };
     match day_of(text) {
         Some(day) if day.year() <= LAST_YEAR => Ok(Some(day)),
-        _ => Err(wrong(alloc, NO_DAY)?),
+        _ => Err(NoCommand::refused(alloc, NO_DAY)),
     }
 }
 
@@ -250,10 +243,7 @@ fn rules_asked<'a>(
             };
             Ok((script, message))
         }
-        _ => Err(wrong(
-            alloc,
-            "why takes a script and a message, or with --image a message alone",
-        )?),
+        _ => Err(NoCommand::refused(alloc, "why takes a script and a message, or with --image a message alone")),
     }
 }
 

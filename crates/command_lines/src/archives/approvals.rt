@@ -65,7 +65,7 @@ pub(super) fn approved_asked<'a>(
     let approved = value_of(asked, names::APPROVED);
     if approved.is_some() && !typed.is_of_all() {
         let reason = "--approved takes the numbers from its file; type none beside it";
-        return Err(NoCommand::Wrong(String::from_str(alloc, reason)?));
+        return Err(NoCommand::refused(alloc, reason));
     }
     Ok(DisposalAsked { typed, approved })
 }

@@ -10,7 +10,7 @@ pub(super) fn damage_asked(alloc: Global, asked: &ArgMatches<'_>) -> Result<bool
     let is_damaged = has_flag(asked, names::DAMAGED);
     if is_damaged && !has_flag(asked, names::YES) {
         let reason = "--damaged needs --yes; without it records are only listed";
-        return Err(NoCommand::Wrong(String::from_str(alloc, reason)?));
+        return Err(NoCommand::refused(alloc, reason));
     }
     Ok(is_damaged)
 }

@@ -278,7 +278,7 @@ fn change_asked(alloc: Global, asked: &ArgMatches<'_>) -> Result<Option<Change>,
             if change.is_some() {
                 let reason =
                     "of --begin, --require-reason, --waive-reason and --accept-found one stands alone";
-                return Err(NoCommand::Wrong(String::from_str(alloc, reason)?));
+                return Err(NoCommand::refused(alloc, reason));
             }
             change = Some(*named);
         }
@@ -314,13 +314,29 @@ fn judge_change(
     if events.is_chosen() {
         let reason =
             "--begin, --require-reason, --waive-reason and --accept-found stand with --by and --reason alone";
-        return Err(NoCommand::Wrong(String::from_str(alloc, reason)?));
+        return Err(NoCommand::refused(alloc, reason));
     }
     if needs_reason(change) && value_of(asked, names::REASON).unwrap_or("").is_empty() {
         let reason = "--waive-reason and --accept-found need a reason; give it by --reason TEXT";
-        return Err(NoCommand::Wrong(String::from_str(alloc, reason)?));
+        return Err(NoCommand::refused(alloc, reason));
     }
     Ok(())
+}
+
+/// The change of a history that is asked for, if one is, with what it needs beside it. Without one there is no reason either.
+fn judged_change(
+    alloc: Global,
+    asked: &ArgMatches<'_>,
+    events: &TypedHistory<'_>,
+) -> Result<Option<Change>, NoCommand> {
+    let change = change_asked(alloc, asked)?;
+    if let Some(change) = change {
+        judge_change(alloc, asked, events, change)?;
+    } else if value_of(asked, names::REASON).is_some() {
+        let reason = "--reason needs --begin, --require-reason, --waive-reason or --accept-found";
+        return Err(NoCommand::refused(alloc, reason));
+    }
+    Ok(change)
 }
 
 /// What is done with a history. A reason is refused where it is not changed, and a choice of events where it is; a reason that is
@@ -330,23 +346,20 @@ pub(super) fn history_asked<'a>(
     asked: &ArgMatches<'a>,
 ) -> Result<HistoryTask<'a>, NoCommand> {
     let events = events_asked(alloc, asked)?;
-    if let Some(change) = change_asked(alloc, asked)? {
-        judge_change(alloc, asked, &events, change)?;
-        return Ok(task_of(change));
+    match judged_change(alloc, asked, &events)? {
+        Some(change) => Ok(task_of(change)),
+        None => Ok(HistoryTask::Print(events)),
     }
-    if value_of(asked, names::REASON).is_some() {
-        let reason = "--reason needs --begin, --require-reason, --waive-reason or --accept-found";
-        return Err(NoCommand::Wrong(String::from_str(alloc, reason)?));
-    }
-    Ok(HistoryTask::Print(events))
 }
 
 /// Whether a text is a mark: 64 hexadecimal digits, as they are printed.
 fn is_mark(text: &str) -> bool {
+    for octet in text.as_bytes() {
+        if !matches!(*octet, b'0'..=b'9' | b'a'..=b'f') {
+            return false;
+        }
+    }
     text.len() == 64
-        && text
-            .bytes()
-            .all(|octet| matches!(octet, b'0'..=b'9' | b'a'..=b'f'))
 }
 
 /// A mark that is looked for.

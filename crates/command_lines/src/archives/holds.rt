@@ -6,7 +6,7 @@ use crate::reading::{NoCommand, has_flag, required};
 use choice_words::TypedChoice;
 use clap::ArgMatches;
 use session_words::is_name;
-use std::alloc::{AllocError, Global};
+use std::alloc::Global;
 
 /// The name of a hold.
 fn name_asked<'a>(alloc: Global, asked: &ArgMatches<'a>) -> Result<&'a str, NoCommand> {
@@ -29,8 +29,8 @@ fn new_name_asked<'a>(alloc: Global, asked: &ArgMatches<'a>) -> Result<&'a str, 
     Ok(name)
 }
 
-/// Which records the hold of a name is about. They must be named; if they are not, `missing` says how they are.
-fn held_asked<'a>(
+/// Which records the hold or the class of a name is about. They must be named; if they are not, `missing` says how they are.
+pub(super) fn held_asked<'a>(
     alloc: Global,
     asked: &ArgMatches<'a>,
     name: &str,
@@ -61,11 +61,6 @@ pub(super) fn hold_asked<'a>(
     Ok(Command::Chosen(choice, ChosenTask::Hold(name)))
 }
 
-/// A refusal in these words.
-pub(super) fn refusal(alloc: Global, words: &str) -> Result<NoCommand, AllocError> {
-    Ok(NoCommand::Wrong(String::from_str(alloc, words)?))
-}
-
 /// The end of a whole hold. Records beside it are refused.
 fn whole_asked<'a>(
     alloc: Global,
@@ -74,7 +69,7 @@ fn whole_asked<'a>(
 ) -> Result<Command<'a>, NoCommand> {
     if !typed_of(alloc, asked)?.is_empty() {
         let reason = "--all ends the hold on each record; it takes no numbers and no conditions";
-        return Err(refusal(alloc, reason)?);
+        return Err(NoCommand::refused(alloc, reason));
     }
     Ok(Command::ReleaseAll {
         name,
@@ -92,7 +87,7 @@ pub(super) fn release_asked<'a>(
         return whole_asked(alloc, asked, name);
     }
     if has_flag(asked, names::YES) {
-        return Err(refusal(alloc, "--yes needs --all")?);
+        return Err(NoCommand::refused(alloc, "--yes needs --all"));
     }
     let choice = held_asked(alloc, asked, name, NONE_TO_RELEASE)?;
     Ok(Command::Chosen(choice, ChosenTask::Release(name)))

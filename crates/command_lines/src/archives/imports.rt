@@ -60,10 +60,12 @@ pub(super) fn import_asked<'a>(
     asked: &ArgMatches<'a>,
 ) -> Result<Import<'a>, NoCommand> {
     let typed = values_of(asked, names::SOURCES).unwrap_or(&[]);
+    let filing = filing_asked(alloc, asked)?;
+    let dating = dating_asked(alloc, asked)?;
     Ok(Import {
         sources: Vec::from_slice(alloc, typed)?,
-        filing: filing_asked(alloc, asked)?,
-        dating: dating_asked(alloc, asked)?,
+        filing,
+        dating,
         is_quiet: has_flag(asked, names::QUIET),
         is_verbose: has_flag(asked, names::VERBOSE),
         is_again: has_flag(asked, names::AGAIN),

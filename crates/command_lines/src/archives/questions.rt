@@ -45,7 +45,7 @@ fn days_asked(
     let until = day_asked(alloc, asked, names::UNTIL)?;
     if is_backwards(since, until) {
         let reason = "the day of --until is before that of --since";
-        return Err(NoCommand::Wrong(String::from_str(alloc, reason)?));
+        return Err(NoCommand::refused(alloc, reason));
     }
     Ok((since, until))
 }
@@ -59,11 +59,12 @@ fn text_asked<'a>(asked: &ArgMatches<'a>, name: &str) -> Option<&'a str> {
 /// The conditions that are given.
 fn conditions_of<'a>(alloc: Global, asked: &ArgMatches<'a>) -> Result<Choice<'a>, NoCommand> {
     let (since, until) = days_asked(alloc, asked)?;
+    let due = day_asked(alloc, asked, names::DUE)?;
     Ok(Choice {
         numbers: Vec::new(alloc),
         from: 1,
         class: value_of(asked, names::CLASS),
-        due: day_asked(alloc, asked, names::DUE)?,
+        due,
         since,
         until,
         is_held: has_flag(asked, names::HELD),

@@ -1,7 +1,6 @@
 //! What a command line asks of a refiling.
 
-use super::holds::refusal;
-use super::questions::typed_of;
+use super::holds::held_asked;
 use super::{ChosenTask, Command, names};
 use crate::reading::{NoCommand, has_flag, required};
 use clap::ArgMatches;
@@ -27,12 +26,9 @@ pub(super) fn refile_asked<'a>(
 ) -> Result<Command<'a>, NoCommand> {
     let to = required(asked, names::TO)?;
     if required(asked, names::REASON)?.is_empty() {
-        return Err(refusal(alloc, "refile needs a reason; give it by --reason TEXT")?);
+        return Err(NoCommand::refused(alloc, "refile needs a reason; give it by --reason TEXT"));
     }
-    let choice = typed_of(alloc, asked)?;
-    if choice.is_empty() {
-        return Err(NoCommand::wrong(alloc, to, NONE_TO_REFILE));
-    }
+    let choice = held_asked(alloc, asked, to, NONE_TO_REFILE)?;
     let refiling = Refiling {
         to,
         is_agreed: has_flag(asked, names::YES),
