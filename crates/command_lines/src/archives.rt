@@ -420,7 +420,10 @@ fn check_asked<'a>(alloc: Global, asked: &ArgMatches<'a>) -> Result<Command<'a>,
     let officer = value_of(asked, names::OFFICER);
     match value_of(asked, names::RULES) {
         Some(rules) => Ok(Command::CheckRules(RulesChecked { rules, officer })),
-        None if officer.is_some() => Err(NoCommand::refused(alloc, "an officer needs the folder of --rules")),
+        None if officer.is_some() => Err(NoCommand::refused(
+            alloc,
+            "an officer needs the folder of --rules",
+        )),
         None => Ok(Command::Check {
             head: head_asked(alloc, asked)?,
         }),

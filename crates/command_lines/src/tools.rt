@@ -178,7 +178,10 @@ fn check_asked<'a>(alloc: Global, asked: &ArgMatches<'a>) -> Result<Check<'a>, N
     let files = values_of(asked, names::FILES).unwrap_or(&[]);
     let place = place_asked(asked);
     if let (Place::Folders(_), true) = (place, files.is_empty()) {
-        return Err(NoCommand::refused(alloc, "check takes scripts, and plans by the ending .toml; or with --rules officers"));
+        return Err(NoCommand::refused(
+            alloc,
+            "check takes scripts, and plans by the ending .toml; or with --rules officers",
+        ));
     }
     Ok(Check {
         files: Vec::from_slice(alloc, files)?,
@@ -243,7 +246,10 @@ fn rules_asked<'a>(
             };
             Ok((script, message))
         }
-        _ => Err(NoCommand::refused(alloc, "why takes a script and a message, or with --image a message alone")),
+        _ => Err(NoCommand::refused(
+            alloc,
+            "why takes a script and a message, or with --image a message alone",
+        )),
     }
 }
 

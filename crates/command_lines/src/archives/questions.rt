@@ -1,7 +1,7 @@
 //! What a command line asks of records: their numbers, and conditions that they meet.
 
-use super::numbers::{Numbers, first_asked, numbers_asked};
 use super::names;
+use super::numbers::{Numbers, first_asked, numbers_asked};
 use crate::reading::{NoCommand, day_of, has_flag, value_of};
 use choice_words::{Choice, TypedChoice, VolumeNumber};
 use clap::ArgMatches;
