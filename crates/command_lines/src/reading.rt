@@ -130,7 +130,11 @@ pub(crate) fn shown_words(alloc: Global, words: &[String]) -> Result<Vec<String>
 }
 
 /// Prints what `clap` reports of words as they are shown, which are none of a command's.
-pub(crate) fn tell_refusal(rt: &HostRuntime, command: Command<'_>, shown: &[String]) -> NoCommand {
+pub(crate) fn tell_refusal<'a>(
+    rt: &HostRuntime,
+    command: Command<'a>,
+    shown: &'a [String],
+) -> NoCommand {
     match command.try_get_matches_from(shown) {
         Ok(_) => NoCommand::Unread,
         Err(error) => tell_report(rt, &error),

@@ -45,7 +45,7 @@ fn days_asked(
     let until = day_asked(alloc, asked, names::UNTIL)?;
     if is_backwards(since, until) {
         let reason = "the day of --until is before that of --since";
-        return Err(NoCommand::refused(alloc, reason));
+        return Err(NoCommand::Wrong(String::from_str(alloc, reason)?));
     }
     Ok((since, until))
 }
