@@ -141,11 +141,16 @@ fn text_of(
 }
 
 /// The cases of a store, or of several together.
-#[derive(Drop)]
 pub struct AllCases {
     alloc: Global,
     /// By the names of their holds.
     cases: BTreeMap<Vec<u8>, Kept>,
+}
+
+impl Drop for AllCases {
+    fn drop(self) {
+        let AllCases { alloc: _, cases: _ } = self;
+    }
 }
 
 impl AllCases {

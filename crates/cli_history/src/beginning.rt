@@ -23,9 +23,14 @@ use std::collections::{BTreeMap, BTreeSet};
 use tool_texts::{Shown, put};
 
 /// The seals that a history has of messages.
-#[derive(Drop)]
 pub struct Known<'a> {
     seals: BTreeMap<u32, &'a Seal>,
+}
+
+impl Drop for Known<'_> {
+    fn drop(self) {
+        let Known { seals: _ } = self;
+    }
 }
 
 impl<'a> Known<'a> {

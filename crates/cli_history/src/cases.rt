@@ -131,10 +131,15 @@ struct Case {
 }
 
 /// The cases of an archive.
-#[derive(Drop)]
 struct Cases {
     /// By the names of their holds.
     cases: BTreeMap<Vec<u8>, Case>,
+}
+
+impl Drop for Cases {
+    fn drop(self) {
+        let Cases { cases: _ } = self;
+    }
 }
 
 impl Cases {

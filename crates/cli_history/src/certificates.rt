@@ -39,9 +39,14 @@ struct Sealed {
 }
 
 /// The messages of the records that were destroyed: each with its seal, once that was found.
-#[derive(Drop)]
 struct Messages {
     seals: BTreeMap<u32, Option<Sealed>>,
+}
+
+impl Drop for Messages {
+    fn drop(self) {
+        let Messages { seals: _ } = self;
+    }
 }
 
 /// The record of a number, if there is one.
@@ -287,7 +292,6 @@ fn certificate_of(
 }
 
 /// Certificates that are printed of a history, which is judged as it is read.
-#[derive(Drop)]
 struct PrintedCertificates<'n> {
     /// The number of the volume, in an archive of volumes.
     volume: Option<u32>,
@@ -299,6 +303,20 @@ struct PrintedCertificates<'n> {
     missing: Missing,
     /// The records of which an event tells that they were destroyed.
     told: BTreeSet<u32>,
+}
+
+impl Drop for PrintedCertificates<'_> {
+    fn drop(self) {
+        let PrintedCertificates {
+            volume: _,
+            typed: _,
+            messages: _,
+            watch: _,
+            titles: _,
+            missing: _,
+            told: _,
+        } = self;
+    }
 }
 
 impl<'n> PrintedCertificates<'n> {

@@ -57,7 +57,6 @@ enum Difference {
 }
 
 /// The records that differ, and what is known of messages and holds.
-#[derive(Drop)]
 pub struct Comparison<'a> {
     made: &'a SealedArchive,
     /// The seals of the messages that the store has, where they are compared.
@@ -76,6 +75,22 @@ pub struct Comparison<'a> {
     more: u64,
     /// What was done that the history does not tell.
     changes: Changes,
+}
+
+impl Drop for Comparison<'_> {
+    fn drop(self) {
+        let Comparison {
+            made: _,
+            stored: _,
+            is_planned: _,
+            records: _,
+            messages: _,
+            held: _,
+            found: _,
+            more: _,
+            changes: _,
+        } = self;
+    }
 }
 
 /// Notes the place of a number.
@@ -536,8 +551,18 @@ impl<'a> Comparison<'a> {
     pub fn into_changes(self) -> Changes
         ensures { result ≡ self.entry.changes }
     {
-        let Comparison { changes, .. } = self;
-        changes
+        let Comparison {
+            made: _,
+            stored: _,
+            is_planned: _,
+            records: _,
+            messages: _,
+            held: _,
+            found: _,
+            more: _,
+            changes: done,
+        } = self;
+        done
     }
 }
 

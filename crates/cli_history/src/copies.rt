@@ -17,10 +17,15 @@ fn look_at_page(rt: &HostRuntime, watch: &mut Watch, page: &[EventRow]) -> Resul
 }
 
 /// The lines of a history, and its last mark.
-#[derive(Drop)]
 pub struct Lines {
     lines: Vec<Vec<u8>>,
     mark: Vec<u8>,
+}
+
+impl Drop for Lines {
+    fn drop(self) {
+        let Lines { lines: _, mark: _ } = self;
+    }
 }
 
 impl Lines {

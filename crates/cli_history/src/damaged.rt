@@ -13,12 +13,21 @@ use std::alloc::{AllocError, Global};
 use tool_texts::Shown;
 
 /// What of a history is whole: the lines before the first event that something stands against.
-#[derive(Drop)]
 pub struct Whole {
     judge: Judge,
     lines: Vec<Vec<u8>>,
     /// What stands against the first event that is not whole, in words with its number; none where all are whole.
     fault: Option<Shown>,
+}
+
+impl Drop for Whole {
+    fn drop(self) {
+        let Whole {
+            judge: _,
+            lines: _,
+            fault: _,
+        } = self;
+    }
 }
 
 /// Copies of lines.

@@ -76,7 +76,6 @@ pub const GOES_ON: &str = "; more in the next event";
 
 /// What a program that keeps no history has done. The holds that it has ended come first, then what else can end the keeping of
 /// records.
-#[derive(Drop)]
 pub struct Changes {
     alloc: Global,
     ended: Vec<Change>,
@@ -86,8 +85,19 @@ pub struct Changes {
     more: u64,
 }
 
+impl Drop for Changes {
+    fn drop(self) {
+        let Changes {
+            alloc: _,
+            ended: _,
+            ends: _,
+            others: _,
+            more: _,
+        } = self;
+    }
+}
+
 /// Texts that have no more octets than a reason, with the number of what the last one has no room for.
-#[derive(Drop)]
 struct Fitted {
     alloc: Global,
     /// How each begins.
@@ -96,6 +106,18 @@ struct Fitted {
     /// The last text.
     text: String,
     more: u64,
+}
+
+impl Drop for Fitted {
+    fn drop(self) {
+        let Fitted {
+            alloc: _,
+            beginning: _,
+            texts: _,
+            text: _,
+            more: _,
+        } = self;
+    }
 }
 
 /// Whether a reason has room for a change in these words, and for what may stand behind it.
@@ -158,10 +180,11 @@ impl Fitted {
     /// The texts. The last one says how many changes are not among them.
     fn into_texts(self) -> Result<Vec<String>, AllocError> {
         let Fitted {
-            mut text,
+            alloc: _,
+            beginning: _,
             mut texts,
+            mut text,
             more,
-            ..
         } = self;
         if more > 0 {
             write!(text, "; and {more} more")?;

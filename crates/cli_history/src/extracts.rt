@@ -15,10 +15,18 @@ use std::collections::BTreeSet;
 use tool_texts::Shown;
 
 /// Records that are taken out, and their messages.
-#[derive(Drop)]
 pub struct Subjects {
     records: BTreeSet<u32>,
     messages: BTreeSet<u32>,
+}
+
+impl Drop for Subjects {
+    fn drop(self) {
+        let Subjects {
+            records: _,
+            messages: _,
+        } = self;
+    }
 }
 
 impl Subjects {
@@ -49,7 +57,6 @@ impl Subjects {
 }
 
 /// A walk over the events of records, which are judged as they are read.
-#[derive(Drop)]
 pub struct Extract<'s> {
     subjects: &'s Subjects,
     watch: Watch,
@@ -58,6 +65,18 @@ pub struct Extract<'s> {
     /// The mark of the event before; empty before the first.
     before: Vec<u8>,
     is_any_unread: bool,
+}
+
+impl Drop for Extract<'_> {
+    fn drop(self) {
+        let Extract {
+            subjects: _,
+            watch: _,
+            events: _,
+            before: _,
+            is_any_unread: _,
+        } = self;
+    }
 }
 
 /// Adds the line of an event that is taken out: the mark of the event before it, which is `-` for the first one, its own mark,

@@ -191,12 +191,21 @@ fn group_line(
 }
 
 /// The groups of findings behind the beginning of a history, and what was accepted.
-#[derive(Drop)]
 struct Groups {
     alloc: Global,
     groups: Vec<Group>,
     /// In the order of their events.
     accepted: Vec<Accepted>,
+}
+
+impl Drop for Groups {
+    fn drop(self) {
+        let Groups {
+            alloc: _,
+            groups: _,
+            accepted: _,
+        } = self;
+    }
 }
 
 /// The greatest number of groups that a failure names.

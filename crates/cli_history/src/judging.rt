@@ -26,7 +26,6 @@ use std::alloc::{AllocError, Global};
 use tool_texts::{Shown, put};
 
 /// What was found of a history so far.
-#[derive(Drop)]
 struct Judgement<'h> {
     watch: Watch,
     findings: Findings,
@@ -39,6 +38,20 @@ struct Judgement<'h> {
     mark: Vec<u8>,
     /// The moment of the last event.
     moment: u64,
+}
+
+impl Drop for Judgement<'_> {
+    fn drop(self) {
+        let Judgement {
+            watch: _,
+            findings: _,
+            head: _,
+            met: _,
+            count: _,
+            mark: _,
+            moment: _,
+        } = self;
+    }
 }
 
 /// That a mark is that of an event.

@@ -38,7 +38,6 @@ pub struct HistoryText<K> {
 }
 
 /// A history that is printed, and judged as it is read.
-#[derive(Drop)]
 pub struct PrintedHistory<'q, 'a> {
     asked: &'q HistoryAsked<'a>,
     /// The number of its volume, in an archive of volumes.
@@ -50,6 +49,19 @@ pub struct PrintedHistory<'q, 'a> {
     missing: Missing,
     /// Whether a record of one of these numbers is there after the events that were read.
     is_there: bool,
+}
+
+impl Drop for PrintedHistory<'_, '_> {
+    fn drop(self) {
+        let PrintedHistory {
+            asked: _,
+            volume: _,
+            watch: _,
+            is_any_unread: _,
+            missing: _,
+            is_there: _,
+        } = self;
+    }
 }
 
 /// What is said of a number of which no event is printed.

@@ -23,13 +23,23 @@ use sqlite::Alter;
 use std::alloc::{AllocError, Global};
 
 /// What a history makes, and what it asks of those who decide.
-#[derive(Drop)]
 pub struct Replayed {
     judge: Judge,
     requires_reasons: bool,
     findings: Findings,
     /// The seals that it tells of messages, where records may be destroyed.
     seals: Option<Seals>,
+}
+
+impl Drop for Replayed {
+    fn drop(self) {
+        let Replayed {
+            judge: _,
+            requires_reasons: _,
+            findings: _,
+            seals: _,
+        } = self;
+    }
 }
 
 /// Whether reasons are required after a deed, by whether they were before it.
@@ -182,7 +192,12 @@ impl Replayed {
     pub fn into_seals(self, alloc: Global) -> Seals
         ensures { IfSome self.seals (λ s. result ≡ s) }
     {
-        let Replayed { seals, .. } = self;
+        let Replayed {
+            judge: _,
+            requires_reasons: _,
+            findings: _,
+            seals,
+        } = self;
         match seals {
             Some(seals) => seals,
             None => Seals::none(alloc),

@@ -36,11 +36,16 @@ pub struct Told {
 }
 
 /// The seals of messages, as the events of a history tell them. Of several events about one message the last one counts.
-#[derive(Drop)]
 pub struct Seals {
     /// By the numbers of messages.
     told: BTreeMap<u32, Told>,
     titles: Titles,
+}
+
+impl Drop for Seals {
+    fn drop(self) {
+        let Seals { told: _, titles: _ } = self;
+    }
 }
 
 /// What a message is, beside the one that was captured.
@@ -73,10 +78,18 @@ pub(crate) fn deed_of(alloc: Global, row: &EventRow) -> Result<Option<Deed<'_>>,
 }
 
 /// How the deeds begin that tell the seal of one message.
-#[derive(Drop)]
 struct Beginnings {
     captured: String,
     found: String,
+}
+
+impl Drop for Beginnings {
+    fn drop(self) {
+        let Beginnings {
+            captured: _,
+            found: _,
+        } = self;
+    }
 }
 
 /// What follows the first blank of a text; nothing where there is none.

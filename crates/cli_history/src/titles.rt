@@ -39,11 +39,19 @@ impl Kept {
 }
 
 /// The titles of classes, as the events of a history tell them. Of several events about one class the last one counts.
-#[derive(Drop)]
 pub struct Titles {
     alloc: Global,
     /// By the paths of classes.
     titles: BTreeMap<Vec<u8>, Kept>,
+}
+
+impl Drop for Titles {
+    fn drop(self) {
+        let Titles {
+            alloc: _,
+            titles: _,
+        } = self;
+    }
 }
 
 impl Titles {

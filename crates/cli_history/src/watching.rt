@@ -11,13 +11,22 @@ use std::alloc::{AllocError, Global};
 use tool_texts::{Shown, put};
 
 /// A judge who looks at each event of a history as it is read, from the first one on.
-#[derive(Drop)]
 pub struct Watch {
     /// The number of the volume whose history it is, in an archive of volumes.
     volume: Option<u32>,
     judge: Judge,
     /// The number of the first event that something stands against.
     fault: Option<u32>,
+}
+
+impl Drop for Watch {
+    fn drop(self) {
+        let Watch {
+            volume: _,
+            judge: _,
+            fault: _,
+        } = self;
+    }
 }
 
 /// That nothing is certain from an event on.
