@@ -57,7 +57,8 @@ twice_are : map is_twice ((sealed 1 1 ∷ sealed 5 5 ∷ []) ∷ (sealed 2 2 ∷
 twice_are = refl
 
 -- two messages of one number in two volumes; and of two records the one in the lower volume, and in one volume of the lower number
-twice_in_volumes : map is_twice ((sealed_in 1 4 2 ∷ sealed_in 3 9 2 ∷ []) ∷ (sealed_in 3 4 2 ∷ sealed_in 3 5 2 ∷ []) ∷ []) ≡ true ∷ false ∷ []
+twice_in_volumes : map is_twice ((sealed_in 1 4 2 ∷ sealed_in 3 9 2 ∷ []) ∷ (sealed_in 3 4 2 ∷ sealed_in 3 5 2 ∷ []) ∷ [])
+    ≡ true ∷ false ∷ []
 twice_in_volumes = refl
 
 order_of_places : map (place_order (sealed_in 2 5 5)) (sealed_in 1 9 1 ∷ sealed_in 2 5 1 ∷ sealed_in 2 6 1 ∷ sealed_in 3 1 1 ∷ [])

@@ -196,7 +196,8 @@ other_sum sum h = go (is_utf8 sum) refl
     go false e = sym (ap (λ b. if b then sum else []) e)
 
 -- what the history tells stands for a message
-pub told_key : (o : Option (ℕ × Bor (List ℕ))) (k : Option (Seal × ℕ)) (x : ℕ × Bor (List ℕ)) (a : Archive) (e : RecordEntry) (sum : List ℕ)
+pub told_key : (o : Option (ℕ × Bor (List ℕ))) (k : Option (Seal × ℕ)) (x : ℕ × Bor (List ℕ)) (a : Archive)
+    (e : RecordEntry) (sum : List ℕ)
     → option_map (λ y. (y.0, y.1.now)) o ≡ option_map length_and_sum k → o ≡ Some x → sum ≡ x.1.now → IsKeyOf k a e (x.0, sum)
 told_key o None x a e sum same is sums = let no = sym same ∙ ap (option_map (λ y. (y.0, y.1.now))) is in absurd cc
 told_key o (Some told) x a e sum same is sums =
@@ -204,8 +205,8 @@ told_key o (Some told) x a e sum same is sums =
     let key : length_and_sum told ≡ (x.0, x.1.now) = cc in ap (λ s. (x.0, s)) sums ∙ sym key
 
 -- and it tells nothing where nothing is known
-pub untold : (o : Option (ℕ × Bor (List ℕ))) (k : Option (Seal × ℕ)) → option_map (λ y. (y.0, y.1.now)) o ≡ option_map length_and_sum k
-    → o ≡ None → None ≡ k
+pub untold : (o : Option (ℕ × Bor (List ℕ))) (k : Option (Seal × ℕ))
+    → option_map (λ y. (y.0, y.1.now)) o ≡ option_map length_and_sum k → o ≡ None → None ≡ k
 untold o None same is = refl
 untold o (Some told) same is = let no = sym same ∙ ap (option_map (λ y. (y.0, y.1.now))) is in absurd cc
 
@@ -218,7 +219,8 @@ gathered_joined v a s (e ∷ es) fs t u one other =
 pub none_gathered : (x : Grouping) (a : Archive) → Gathers x a [] x
 none_gathered x a = record { gathered = []; are = refl; added = nothing_written AreGroupsOf x.groups; volume = refl; seals = refl }
 
-pub more_gathered : (x y z : Grouping) (a : Archive) (es fs : List RecordEntry) → Gathers x a es y → Gathers y a fs z → Gathers x a (es ++ fs) z
+pub more_gathered : (x y z : Grouping) (a : Archive) (es fs : List RecordEntry) → Gathers x a es y → Gathers y a fs z
+    → Gathers x a (es ++ fs) z
 more_gathered x y z a es fs one other = record {
   gathered = one.gathered ++ other.gathered;
   are = gathered_joined x.volume a x.seals es fs one.gathered other.gathered one.are
@@ -355,8 +357,9 @@ module _ {K : Type 0} (written : K → List ℕ → Type 0) (IsRow : RowTexts) w
   -- a list that has begun with its head, has these groups added to it and is ended with its end is that of these groups
   pub whole_twice : (l : Listing) (before : K) (gs : List KeyedGroup) (x y z u : ListText K) → x.sink ≡ before
       → x.listing ≡ l → x.text.items ≡ [] → x.count ≡ 0 → Writes (HasText written) x y (head_beside l.format l.headers)
-      → y.count ≡ x.count → y.listing ≡ x.listing → AddsGroups written IsRow y gs z → Writes (HasText written) z u (end_of z.listing.format z.count)
-      → u.text.items ≡ [] → (text : List ℕ) × IsListOfGroups IsRow l gs text × Writes written before u.sink text
+      → y.count ≡ x.count → y.listing ≡ x.listing → AddsGroups written IsRow y gs z
+      → Writes (HasText written) z u (end_of z.listing.format z.count) → u.text.items ≡ []
+      → (text : List ℕ) × IsListOfGroups IsRow l gs text × Writes written before u.sink text
   whole_twice l before gs x y z u sink listing empty none head count same added end all =
       let counted : z.count ≡ min (length (all_records gs)) greatest =
       added.counted ∙ ap (more_for (all_records gs)) (count ∙ none) ∙ count_of (all_records gs) 0 (omega arith)

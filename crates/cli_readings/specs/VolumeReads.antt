@@ -13,8 +13,8 @@ use Rattle.cli_console.specs.Finds.{HasSingles, TakesThese, found_in}
 
 -- THE RECORDS OF A CHOICE that have all that is asked WERE TAKEN, each once, in the order of their numbers, and nothing else; each number that
 -- is typed by itself is found
-pub record TakesFound {K : Type 0} (takes : K → Archive → List RecordEntry → K → Type 0) (choice : Choice) (questions : Questions) (a : Archive)
-    (old new : K) : Type 0 where
+pub record TakesFound {K : Type 0} (takes : K → Archive → List RecordEntry → K → Type 0) (choice : Choice)
+    (questions : Questions) (a : Archive) (old new : K) : Type 0 where
   pub took : TakesThese takes old a (found_in choice questions a) new
   pub each_found : HasSingles choice.numbers.items (found_in choice questions a)
 
