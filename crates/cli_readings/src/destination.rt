@@ -85,7 +85,6 @@ impl Noted {
 }
 
 /// A folder to which records are exported, of which nothing is claimed.
-#[derive(Drop)]
 pub(crate) struct Folder<'a> {
     pub(crate) rt: &'a HostRuntime,
     pub(crate) path: &'a str,
@@ -98,6 +97,21 @@ pub(crate) struct Folder<'a> {
     pub(crate) noted: Noted,
     /// The volumes whose events are written; the store has none.
     pub(crate) histories: Vec<Option<u32>>,
+}
+
+impl Drop for Folder<'_> {
+    fn drop(self) {
+        let Folder {
+            rt: _,
+            path: _,
+            last: _,
+            manifest: _,
+            sums: _,
+            index: _,
+            noted: _,
+            histories: _,
+        } = self;
+    }
 }
 
 impl<'a> Folder<'a> {
@@ -134,6 +148,21 @@ impl<'a> Folder<'a> {
         if self.noted.volume != volume {
             self.noted = Noted::nothing(self.rt.alloc(), volume);
         }
+    }
+
+    /// Where it is, the index of the records, and the volumes whose events are written.
+    pub(crate) fn into_lists(self) -> (&'a str, Index, Vec<Option<u32>>) {
+        let Folder {
+            rt: _,
+            path,
+            last: _,
+            manifest: _,
+            sums: _,
+            index,
+            noted: _,
+            histories,
+        } = self;
+        (path, index, histories)
     }
 
     /// Makes the files of the lists that are not there yet, since nothing was added to them.

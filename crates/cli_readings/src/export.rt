@@ -189,12 +189,7 @@ fn write_lists(
 ) -> Result<(), Failure> {
     let mut folder = folder;
     folder.end()?;
-    let Folder {
-        path,
-        index,
-        histories,
-        ..
-    } = folder;
+    let (path, index, histories) = folder.into_lists();
     let moment = moment_text(rt.alloc(), now(rt)?)?;
     let heading = IndexHeading {
         file,

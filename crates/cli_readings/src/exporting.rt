@@ -22,13 +22,24 @@ use record_store::{RecordEntry, StoreFault};
 use std::alloc::{AllocError, Global};
 
 /// A message that was written to a file.
-#[derive(Drop)]
 pub(crate) struct Written {
     message: u32,
     file: String,
     octets: usize,
     sum: String,
     headers: Headers,
+}
+
+impl Drop for Written {
+    fn drop(self) {
+        let Written {
+            message: _,
+            file: _,
+            octets: _,
+            sum: _,
+            headers: _,
+        } = self;
+    }
 }
 
 impl Written {

@@ -66,13 +66,23 @@ fn headers_of_due<R: Repository<Fault = StoreFault>>(
 }
 
 /// A report by a day to which records are added.
-#[derive(Drop)]
 pub(crate) struct Reporting<'a> {
     rt: &'a HostRuntime,
     report: Report,
     day: Date,
     /// The number of the volume whose records are added, in an archive of volumes.
     pub(crate) volume: Option<u32>,
+}
+
+impl Drop for Reporting<'_> {
+    fn drop(self) {
+        let Reporting {
+            rt: _,
+            report: _,
+            day: _,
+            volume: _,
+        } = self;
+    }
 }
 
 impl<'a> Reporting<'a> {

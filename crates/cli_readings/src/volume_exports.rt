@@ -104,10 +104,18 @@ impl<'a, D: Destination + Drop> ExportOfVolumes<'a, D> {
 }
 
 /// An export of the records of several volumes to a folder, in which none of its files is yet.
-#[derive(Drop)]
 pub struct VolumeExport<'a> {
     export: ExportOfVolumes<'a, Folder<'a>>,
     target: Target<'a>,
+}
+
+impl Drop for VolumeExport<'_> {
+    fn drop(self) {
+        let VolumeExport {
+            export: _,
+            target: _,
+        } = self;
+    }
 }
 
 impl<'a> VolumeExport<'a> {

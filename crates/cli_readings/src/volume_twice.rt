@@ -143,10 +143,18 @@ fn listing_in(listing: Listing, volume: u32) -> Listing
 }
 
 /// A group of records, and the rows of the first of them.
-#[derive(Drop)]
 struct GroupRows {
     keyed: (SealKey, Group),
     rows: Vec<Vec<u8>>,
+}
+
+impl Drop for GroupRows {
+    fn drop(self) {
+        let GroupRows {
+            keyed: _,
+            rows: _,
+        } = self;
+    }
 }
 
 impl GroupRows {

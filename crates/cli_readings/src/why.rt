@@ -26,7 +26,6 @@ const DAY: u64 = 86_400;
 const FULL: u8 = 96;
 
 /// A record as it was captured, with the plan of today.
-#[derive(Drop)]
 pub struct Captured {
     /// The number of its volume, in an archive of volumes.
     volume: Option<u32>,
@@ -36,6 +35,18 @@ pub struct Captured {
     plan: Plan,
     /// The line of the event by which it got its class, where that is not the one of its capture.
     refiling: Option<Shown>,
+}
+
+impl Drop for Captured {
+    fn drop(self) {
+        let Captured {
+            volume: _,
+            entry: _,
+            message: _,
+            plan: _,
+            refiling: _,
+        } = self;
+    }
 }
 
 /// The failure of an inquiry.
