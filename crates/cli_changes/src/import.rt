@@ -57,7 +57,6 @@ use tool_texts::{Shown, put};
 const DAY: u64 = 86_400;
 
 /// Old mail, how it is filed, and what is said of it.
-#[derive(Drop)]
 pub struct MailImport<'a> {
     pub(crate) rt: &'a HostRuntime,
     pub(crate) sources: Vec<Source<'a>>,
@@ -71,6 +70,22 @@ pub struct MailImport<'a> {
     /// Whether each message is told that is captured already.
     pub(crate) is_verbose: bool,
     pub(crate) log: IntakeLog<'a>,
+}
+
+impl Drop for MailImport<'_> {
+    fn drop(self) {
+        let MailImport {
+            rt: _,
+            sources: _,
+            filing: _,
+            asked: _,
+            timing: _,
+            terms: _,
+            is_quiet: _,
+            is_verbose: _,
+            log: _,
+        } = self;
+    }
 }
 
 /// What is told of a day that has not come.

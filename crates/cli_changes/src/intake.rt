@@ -32,13 +32,24 @@ use std::io;
 use tool_texts::Shown;
 
 /// A Maildir, how its messages are filed, and what is said of them.
-#[derive(Drop)]
 pub struct Intake<'a> {
     pub(crate) rt: &'a HostRuntime,
     pub(crate) maildir: &'a str,
     pub(crate) timing: Timing,
     pub(crate) filing: FilingRules<'a>,
     pub(crate) log: IntakeLog<'a>,
+}
+
+impl Drop for Intake<'_> {
+    fn drop(self) {
+        let Intake {
+            rt: _,
+            maildir: _,
+            timing: _,
+            filing: _,
+            log: _,
+        } = self;
+    }
 }
 
 /// The status of a fault of a Maildir; none where there was no memory.

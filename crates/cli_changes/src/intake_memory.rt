@@ -22,13 +22,22 @@ const NEW_NAME: &str = ".mailfile-store-told.new";
 const MOST: usize = 1_048_576;
 
 /// What is remembered.
-#[derive(Drop)]
 pub(crate) struct Recalled {
     pub memory: Memory,
     /// The octets of the file; none where there is no file, or one of too many octets.
     octets: Option<Vec<u8>>,
     /// Whether it was told already that the file cannot be read or written.
     has_failed: bool,
+}
+
+impl Drop for Recalled {
+    fn drop(self) {
+        let Recalled {
+            memory: _,
+            octets: _,
+            has_failed: _,
+        } = self;
+    }
 }
 
 /// A message and the words for its stay.

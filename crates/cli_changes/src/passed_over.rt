@@ -32,11 +32,20 @@ enum Cause {
 }
 
 /// The numbers of records that are passed over, by the cause.
-#[derive(Drop)]
 struct PassedOver {
     held: Vec<TypedNumbers>,
     not_for_destruction: Vec<TypedNumbers>,
     not_due: Vec<TypedNumbers>,
+}
+
+impl Drop for PassedOver {
+    fn drop(self) {
+        let PassedOver {
+            held: _,
+            not_for_destruction: _,
+            not_due: _,
+        } = self;
+    }
 }
 
 /// Whether there is a hold among these.

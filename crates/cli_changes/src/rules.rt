@@ -29,7 +29,6 @@ use tool_checks::push_officers;
 use tool_texts::{Shown, put};
 
 /// How mail is filed.
-#[derive(Drop)]
 pub struct FilingRules<'a> {
     pub officer: &'a str,
     pub on_fault: OnFault,
@@ -39,6 +38,18 @@ pub struct FilingRules<'a> {
     has_times: bool,
     /// None where the rules are at fault, and mail may go to `unfiled` then.
     rules: Option<Rules>,
+}
+
+impl Drop for FilingRules<'_> {
+    fn drop(self) {
+        let FilingRules {
+            officer: _,
+            on_fault: _,
+            limit: _,
+            has_times: _,
+            rules: _,
+        } = self;
+    }
 }
 
 /// Rules as a history names them.
