@@ -181,10 +181,18 @@ pub fn read_message(rt: &HostRuntime) -> Result<Payload, Failure> {
 }
 
 /// What became of a message, and what is known of the fault in which its run ended, if it did.
-#[derive(Drop)]
 pub struct Delivered {
     outcome: Delivery,
     cause: Option<Cause>,
+}
+
+impl Drop for Delivered {
+    fn drop(self) {
+        let Delivered {
+            outcome: _,
+            cause: _,
+        } = self;
+    }
 }
 
 /// The fault with which the run over a message ended, if it did.

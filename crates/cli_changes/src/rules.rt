@@ -53,11 +53,19 @@ impl Drop for FilingRules<'_> {
 }
 
 /// Rules as a history names them.
-#[derive(Drop)]
 pub struct NamedRules {
     pub officer: String,
     /// In hexadecimal digits.
     pub sum: String,
+}
+
+impl Drop for NamedRules {
+    fn drop(self) {
+        let NamedRules {
+            officer: _,
+            sum: _,
+        } = self;
+    }
 }
 
 /// Who reads what is told of rules.
