@@ -1,9 +1,9 @@
 -- What lines lead to, by what an input begins with.
 use Rattle.std.proofs.Common.{◌≡◌, ◌∙◌, ℕ, List, sym}
-use Rattle.std.specs.Prelude.{IfOk, Result, Ok, Err}
+use Rattle.std.specs.Prelude.{Result, Ok, Err}
 use Rattle.desk_commands.specs.Answers.{Answer}
 use Rattle.desk_commands.specs.Standing.{Command}
-use Rattle.session_protocol.specs.ItemAnswers.{Answers}
+use Rattle.session_protocol.specs.ItemAnswers.{Answers, Reacts}
 use Rattle.session_protocol.specs.Session.{InputStart}
 use Rattle.session_protocol.specs.declared.items.Reaction.{Reaction}
 use Rattle.session_protocol.specs.declared.items.Reaction.TheVariants as reaction
@@ -16,8 +16,7 @@ module _ {D : Type 0} (tells : Type 0) (Does : D → Command → Answer → D �
   along (reaction.End e) s new start start' left same h = (h.0, λ t. sym (same t) ∙ h.1 t)
 
   -- where an input begins with the same
-  pub answers_along : (r : Result Reaction ReadFault) (s new : D) (start start' : InputStart) (left : List ℕ)
-      → (tells → start ≡ start') → IfOk r (λ a. Answers tells Does s start a new left)
-      → IfOk r (λ a. Answers tells Does s start' a new left)
-  answers_along (Ok a) s new start start' left same h = along a s new start start' left same h
-  answers_along (Err f) s new start start' left same h = tt
+  pub reacts_along : (r : Result Reaction ReadFault) (s new : D) (start start' : InputStart) (left : List ℕ)
+      → (tells → start ≡ start') → Reacts tells Does s start r new left → Reacts tells Does s start' r new left
+  reacts_along (Ok a) s new start start' left same h = along a s new start start' left same h
+  reacts_along (Err f) s new start start' left same h = h

@@ -1,16 +1,14 @@
 -- Octets that a buffer holds before they are written.
-use Rattle.std.proofs.Common.{◌≡◌, ◌∙◌, ◌+◌, ◌<◌, ◌≤◌, ◌++◌, [], ◌∷◌, ℕ, List, length, take, drop, get_or}
-use Rattle.std.proofs.Common.{refl, ap, sym, subst, append_assoc, length-append, arith}
-use Rattle.std.specs.Prelude.{flat_map, Result, Ok, Err}
+use Rattle.std.proofs.Common.{◌≡◌, ◌∙◌, ◌+◌, ◌<◌, ◌≤◌, ◌++◌, [], ℕ, List, length, take, drop}
+use Rattle.std.proofs.Common.{refl, ap, sym, subst, append_assoc, length-append, arith, Result, Ok, Err}
 use Rattle.std.specs.Result.{IsErr}
 use Rattle.std.proofs.lemmas.Bool.{false≢true}
-use Rattle.std.proofs.lemmas.Grind.{flat_map-append}
-use Rattle.std.proofs.lemmas.List.{append-nil, take-append-drop, take_more}
-use Rattle.std.proofs.Math.Seq.{take_all, take-append_seam}
+use Rattle.std.proofs.lemmas.List.{append-nil, take-append-drop}
+use Rattle.std.proofs.Math.Seq.{take-append_seam}
 use Rattle.session_protocol.specs.Streams.{IsAfter}
 use Rattle.session_protocol.specs.Written.{Buffers, Sends, Writes}
 use Rattle.session_protocol.specs.declared.stream.WriteFault.{WriteFault}
-use Rattle.session_protocol.proofs.Pieces.{flat_map_at, writes_after}
+use Rattle.session_protocol.proofs.Pieces.{writes_after}
 
 -- octets that have room are held
 pub held_sent : (held octets kept old : List ℕ) → kept ≡ held ++ octets → Sends (held ++ octets) kept old old
@@ -20,10 +18,6 @@ held_sent held octets kept old is = record {
   rest = sym is;
   together = λ _. refl;
 }
-
--- nothing is written yet
-pub none_sent : (held old : List ℕ) → Sends (held ++ []) held old old
-none_sent held old = held_sent held [] held old (sym (append-nil held))
 
 -- octets come behind those that are left
 sends_behind : (all kept old new ys : List ℕ) → Sends all kept old new → Sends (all ++ ys) (kept ++ ys) old new
@@ -66,43 +60,6 @@ pub short_first : (held xs ys old new : List ℕ) → (rest : List ℕ) × Sends
 short_first held xs ys old new w =
     let P : List ℕ → Type 0 = λ s. Sends s (w.0 ++ ys) old new in
     (w.0 ++ ys, subst P (append_assoc held xs ys) (sends_behind (held ++ xs) w.0 old new ys w.1))
-
-pub as_short : (r : Result (Unit {0}) WriteFault) (held xs old new left : List ℕ) → IsErr r
-    → (rest : List ℕ) × Sends (held ++ xs) rest old new → Buffers r old held xs new left
-as_short (Err f) held xs old new left is w = w
-as_short (Ok u) held xs old new left is w = absurd (false≢true is)
-
--- the octets of one more element
-pub sends_next : {X : Type 0} (f : X → List ℕ) (xs : List X) (i : ℕ) (d : X) (held old mid kept new left : List ℕ) → i < length xs
-    → Sends (held ++ flat_map f (take i xs)) kept old mid → Sends (kept ++ f (get_or xs i d)) left mid new
-    → Sends (held ++ flat_map f (take (i + 1) xs)) left old new
-sends_next f xs i d held old mid kept new left h first next =
-    let x = get_or xs i d in
-    let more : flat_map f (take (i + 1) xs) ≡ flat_map f (take i xs) ++ f x =
-    ap (flat_map f) (take_more xs i d h) ∙ flat_map-append f (take i xs) (x ∷ [])
-    ∙ ap (λ s. flat_map f (take i xs) ++ s) (append-nil (f x)) in
-    let P : List ℕ → Type 0 = λ s. Sends (held ++ s) left old new in
-    subst P (sym more) (sends_after held (flat_map f (take i xs)) (f x) old mid kept new left first next)
-
--- the octets of all elements
-pub sends_all : {X : Type 0} (f : X → List ℕ) (xs : List X) (i : ℕ) (held old kept new : List ℕ) → length xs ≤ i
-    → Sends (held ++ flat_map f (take i xs)) kept old new → Sends (held ++ flat_map f xs) kept old new
-sends_all {X} f xs i held old kept new h w =
-    let P : List X → Type 0 = λ ys. Sends (held ++ flat_map f ys) kept old new in
-    subst P (take_all i xs h) w
-
--- after a fault in the octets of an element
-pub short_next : {X : Type 0} (f : X → List ℕ) (xs : List X) (i : ℕ) (d : X) (held old mid kept new : List ℕ) → i < length xs
-    → Sends (held ++ flat_map f (take i xs)) kept old mid → (rest : List ℕ) × Sends (kept ++ f (get_or xs i d)) rest mid new
-    → (rest : List ℕ) × Sends (held ++ flat_map f xs) rest old new
-short_next f xs i d held old mid kept new h first next =
-    let before = flat_map f (take i xs) in
-    let x = get_or xs i d in
-    let behind = flat_map f (drop (i + 1) xs) in
-    let P : List ℕ → Type 0 = λ s. (rest : List ℕ) × Sends (held ++ s) rest old new in
-    let tail = short_first kept (f x) behind mid new next in
-    subst P (sym (flat_map_at f xs i d h))
-    (tail.0, sends_after held before (f x ++ behind) old mid kept new tail.0 first tail.1)
 
 -- what is held is written behind what was sent
 pub flushed : (r : Result (Unit {0}) WriteFault) (all old mid kept new : List ℕ) → Sends all kept old mid → Writes r mid kept new

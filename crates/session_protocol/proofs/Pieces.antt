@@ -30,10 +30,6 @@ flat_map_at f xs i d h =
     ap (flat_map f) (sym (take-append-drop i xs)) ∙ flat_map-append f (take i xs) (drop i xs)
     ∙ ap (λ s. flat_map f (take i xs) ++ flat_map f s) (drop_next xs i d h)
 
-pub as_fault : (r : Result (Unit {0}) WriteFault) (old xs new : List ℕ) → IsErr r → IsAfter old xs new → Writes r old xs new
-as_fault (Err f) old xs new is b = b
-as_fault (Ok u) old xs new is b = absurd (false≢true is)
-
 pub written_ok : (r : Result (Unit {0}) WriteFault) (old xs new : List ℕ) → Writes r old xs new → is_err r ≡ false → new ≡ old ++ xs
 written_ok (Ok u) old xs new w e = w
 written_ok (Err f) old xs new w e = absurd (false≢true (sym e))

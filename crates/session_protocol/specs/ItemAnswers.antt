@@ -16,6 +16,12 @@ Answers tells Does s start (reaction.Reply r) new left =
     (item : Item) × ItemStep Does s item (answer_of r) new × (tells → start ≡ Got item left)
 Answers tells Does s start (reaction.End e) new left = (new ≡ s) × (tells → start ≡ Stop e left)
 
+-- and after a fault of the source nothing has changed
+abbrev pub Reacts : {D : Type 0} (tells : Type 0) → (D → Command → Answer → D → Type 0) → D → InputStart →
+    Result Reaction ReadFault → D → (left : List ℕ) → Type 0
+Reacts tells Does s start (Ok a) new left = Answers tells Does s start a new left
+Reacts tells Does s start (Err f) new left = new ≡ s
+
 -- the result says that the input has ended
 abbrev pub SaysEnd : Result Reaction ReadFault → Type 0
 SaysEnd (Ok (reaction.Reply r)) = ⊥

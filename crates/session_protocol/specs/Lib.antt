@@ -1,5 +1,6 @@
 pub mod Streams
 pub mod Written
+pub mod Told
 pub mod Lines
 pub mod Words
 pub mod Dates

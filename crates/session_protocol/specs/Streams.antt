@@ -105,3 +105,10 @@ Counts false before now = now ≡ before
 abbrev pub CountsInARow : (is_interruption : Bool) → (before now : ℕ) → Type 0
 CountsInARow true before now = Rises before now × (now ≤ before + 1)
 CountsInARow false before now = now ≡ 0
+
+-- A CALL IS COUNTED: as one that failed, as one that was interrupted, or as neither
+pub record CountsCall (failed interrupted : Bool) (before now : Tally) : Type 0 where
+  pub failures : Counts failed before.failures now.failures
+  pub interruptions : CountsInARow interrupted before.interruptions now.interruptions
+  pub most : now.most_interruptions ≡ max before.most_interruptions now.interruptions
+  pub all : Counts interrupted before.all_interruptions now.all_interruptions

@@ -3,10 +3,10 @@
 
 ghost use Rattle.std.specs.Prelude.{◌≡◌, ◌+◌, ◌<◌, ◌++◌, [], flat_map, length, OnOk};
 ghost use Rattle.std.specs.Bool.{OnTrue, OnFalse};
-ghost use Rattle.session_protocol.specs.Streams.{TellsTroubles};
-ghost use Rattle.session_protocol.specs.Written.{Buffers, Writes};
+ghost use Rattle.session_protocol.specs.Written.{Adds, WritesTo};
 
-use crate::stream::{Sink, WriteFault, write_all};
+use crate::stream::{Sink, WriteFault};
+use crate::tries::write_all;
 use std::marker::Model;
 
 /// How many octets are held at most.
@@ -78,10 +78,8 @@ impl ReplyBuffer {
 
 /// Writes what a buffer holds, and empties it. After a fault some prefix of that is written.
 pub fn flush<K: Sink>(sink: &mut K, buffer: &mut ReplyBuffer) -> Result<(), WriteFault>
-    ensures written { K.tells
-        → Writes result (K.written sink.old) buffer.old (K.written sink.new) }
+    ensures writes { WritesTo K.Sink result sink.old buffer.old sink.new }
     ensures empty { OnOk result (buffer.new ≡ []) }
-    ensures troubles { TellsTroubles K.troubles result sink.old sink.new }
 {
     write_all(sink, buffer.as_slice())?;
     buffer.clear();
@@ -95,9 +93,7 @@ pub fn buffer_all<K: Sink>(
     buffer: &mut ReplyBuffer,
     octets: &[u8],
 ) -> Result<(), WriteFault>
-    ensures written { K.tells → Buffers result (K.written sink.old) buffer.old octets.now
-        (K.written sink.new) buffer.new }
-    ensures troubles { TellsTroubles K.troubles result sink.old sink.new }
+    ensures { Adds K.Sink result sink.old buffer.old octets.now sink.new buffer.new }
 {
     if buffer.put(octets) {
         return Ok(());
@@ -115,9 +111,8 @@ pub fn buffer_pieces<K: Sink>(
     buffer: &mut ReplyBuffer,
     pieces: &[&[u8]],
 ) -> Result<(), WriteFault>
-    ensures written { K.tells → Buffers result (K.written sink.old) buffer.old
-        (flat_map (λ p. p.now) pieces.now) (K.written sink.new) buffer.new }
-    ensures troubles { TellsTroubles K.troubles result sink.old sink.new }
+    ensures { Adds K.Sink result sink.old buffer.old
+        (flat_map (λ p. p.now) pieces.now) sink.new buffer.new }
 {
     for piece in pieces {
         buffer_all(sink, buffer, *piece)?;

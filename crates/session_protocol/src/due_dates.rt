@@ -4,8 +4,7 @@ ghost use Rattle.std.specs.Prelude.{◌≡◌, ◌++◌, pos, codes, decimal, op
 ghost use Rattle.jiff.specs.Words.{epoch_day, IsBetween};
 ghost use Rattle.class_plan.specs.Calendar.{number_of_day};
 ghost use Rattle.session_protocol.specs.Dates.{civil_octets, day_octets, due_octets, two_digits};
-ghost use Rattle.session_protocol.specs.Written.{Buffers};
-ghost use Rattle.session_protocol.specs.Streams.{TellsTroubles};
+ghost use Rattle.session_protocol.specs.Written.{Adds};
 
 use crate::buffer::{ReplyBuffer, buffer_all, buffer_pieces};
 use crate::stream::{Sink, WriteFault};
@@ -35,10 +34,9 @@ fn buffer_civil<K: Sink>(
     month: u8,
     day: u8,
 ) -> Result<(), WriteFault>
-    ensures written { K.tells → Buffers result (K.written sink.old) buffer.old
+    ensures { Adds K.Sink result sink.old buffer.old
         (civil_octets (record { year = year; month = month; day = day }) ++ codes "\n")
-        (K.written sink.new) buffer.new }
-    ensures troubles { TellsTroubles K.troubles result sink.old sink.new }
+        sink.new buffer.new }
 {
     let mut year_text = Buffer::new();
     let year_text = year_text.format(year).as_bytes();
@@ -67,9 +65,8 @@ fn buffer_date<K: Sink>(
     date: Date,
 ) -> Result<(), WriteFault>
     requires { IsBetween (pos 0) (pos 2932896) (epoch_day date) }
-    ensures written { K.tells → Buffers result (K.written sink.old) buffer.old
-        (day_octets (number_of_day date) ++ codes "\n") (K.written sink.new) buffer.new }
-    ensures troubles { TellsTroubles K.troubles result sink.old sink.new }
+    ensures { Adds K.Sink result sink.old buffer.old
+        (day_octets (number_of_day date) ++ codes "\n") sink.new buffer.new }
 {
     let year = date.year().unsigned_abs();
     let month = date.month().unsigned_abs();
@@ -84,9 +81,8 @@ pub fn buffer_due<K: Sink>(
     buffer: &mut ReplyBuffer,
     due: Option<Date>,
 ) -> Result<(), WriteFault>
-    ensures written { K.tells → Buffers result (K.written sink.old) buffer.old
-        (due_octets (option_map epoch_day due) ++ codes "\n") (K.written sink.new) buffer.new }
-    ensures troubles { TellsTroubles K.troubles result sink.old sink.new }
+    ensures { Adds K.Sink result sink.old buffer.old
+        (due_octets (option_map epoch_day due) ++ codes "\n") sink.new buffer.new }
 {
     let Some(date) = due else {
         return buffer_all(sink, buffer, b"never\n");

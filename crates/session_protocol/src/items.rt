@@ -1,11 +1,10 @@
 //! An item of a session: one line with its payloads, which is read and executed.
 
-ghost use Rattle.std.specs.Prelude.{◌≡◌, IfOk, OnErr};
 ghost use Rattle.desk_commands.specs.Calls.{Calls};
 ghost use Rattle.session_protocol.specs.Commands.{one_command, two_command};
-ghost use Rattle.session_protocol.specs.ItemAnswers.{Answers, SaysEnd};
+ghost use Rattle.session_protocol.specs.ItemAnswers.{Reacts, SaysEnd};
 ghost use Rattle.session_protocol.specs.Session.{start_of, start_by_request, with_payload, with_payloads};
-ghost use Rattle.session_protocol.specs.Streams.{TellsEnd, TellsTroubles};
+ghost use Rattle.session_protocol.specs.Told.{TellsReads};
 ghost use Rattle.session_protocol.specs.LineRequests.{request_view};
 
 use crate::commands::{do_alone, do_one, do_two, limit_of_one, limits_of_two, refused};
@@ -49,12 +48,10 @@ fn answer_one<S: Source, R: Registry>(
     command: OnePayload<'_>,
     size: usize,
 ) -> Result<Reaction, ReadFault>
-    ensures reaction { IfOk result (λ a. Answers S.tells (Calls R.keeper) registry.old
-        (with_payload size (one_command command.entry) (S.left source.old)) a
-        registry.new (S.left source.new)) }
-    ensures same { OnErr result (registry.new ≡ registry.old) }
-    ensures ends { TellsEnd (SaysEnd result) (S.ends source.old) (S.ends source.new) }
-    ensures troubles { TellsTroubles S.troubles result source.old source.new }
+    ensures reaction { Reacts S.tells (Calls R.keeper) registry.old
+        (with_payload size (one_command command.entry) (S.left source.old))
+        result registry.new (S.left source.new) }
+    ensures told { TellsReads S.Source (SaysEnd result) result source.old source.new }
 {
     let Some(payload) = read_payload(alloc, source, size, limit_of_one(command))? else {
         return Ok(Reaction::End(SessionEnd::CutShort));
@@ -70,12 +67,10 @@ fn answer_two<S: Source, R: Registry>(
     command: TwoPayloads,
     sizes: (usize, usize),
 ) -> Result<Reaction, ReadFault>
-    ensures reaction { IfOk result (λ a. Answers S.tells (Calls R.keeper) registry.old
-        (with_payloads sizes.0 sizes.1 (two_command command) (S.left source.old)) a
-        registry.new (S.left source.new)) }
-    ensures same { OnErr result (registry.new ≡ registry.old) }
-    ensures ends { TellsEnd (SaysEnd result) (S.ends source.old) (S.ends source.new) }
-    ensures troubles { TellsTroubles S.troubles result source.old source.new }
+    ensures reaction { Reacts S.tells (Calls R.keeper) registry.old
+        (with_payloads sizes.0 sizes.1 (two_command command) (S.left source.old))
+        result registry.new (S.left source.new) }
+    ensures told { TellsReads S.Source (SaysEnd result) result source.old source.new }
 {
     let limits = limits_of_two(command);
     let Some((first, second)) = read_two(alloc, source, sizes, limits)? else {
@@ -91,12 +86,10 @@ fn answer<S: Source, R: Registry>(
     registry: &mut R,
     request: &Request<'_>,
 ) -> Result<Reaction, ReadFault>
-    ensures reaction { IfOk result (λ a. Answers S.tells (Calls R.keeper) registry.old
-        (start_by_request (request_view request.now) (S.left source.old)) a
-        registry.new (S.left source.new)) }
-    ensures same { OnErr result (registry.new ≡ registry.old) }
-    ensures ends { TellsEnd (SaysEnd result) (S.ends source.old) (S.ends source.new) }
-    ensures troubles { TellsTroubles S.troubles result source.old source.new }
+    ensures reaction { Reacts S.tells (Calls R.keeper) registry.old
+        (start_by_request (request_view request.now) (S.left source.old))
+        result registry.new (S.left source.new) }
+    ensures told { TellsReads S.Source (SaysEnd result) result source.old source.new }
 {
     match request {
         Request::Alone(command) => Ok(Reaction::Reply(do_alone(registry, command))),
@@ -118,11 +111,9 @@ pub fn next<S: Source, R: Registry>(
     registry: &mut R,
     line: &mut LineBuffer,
 ) -> Result<Reaction, ReadFault>
-    ensures reaction { IfOk result (λ a. Answers S.tells (Calls R.keeper) registry.old
-        (start_of (S.left source.old)) a registry.new (S.left source.new)) }
-    ensures same { OnErr result (registry.new ≡ registry.old) }
-    ensures ends { TellsEnd (SaysEnd result) (S.ends source.old) (S.ends source.new) }
-    ensures troubles { TellsTroubles S.troubles result source.old source.new }
+    ensures reaction { Reacts S.tells (Calls R.keeper) registry.old
+        (start_of (S.left source.old)) result registry.new (S.left source.new) }
+    ensures told { TellsReads S.Source (SaysEnd result) result source.old source.new }
 {
     match read_line(source, line)? {
         LineEnd::Whole => answer(alloc, source, registry, &read_request(line.as_slice())),

@@ -1,6 +1,7 @@
 //! A session: commands with their payloads are read from a source, and replies are written to a sink.
 //!
 //! - `stream`: sources and sinks, which may fail, be interrupted, and move fewer octets than they are asked to;
+//! - `tries`: reads and writes that are tried again after an interruption;
 //! - `tally`: how their troubles are counted;
 //! - `lines`, `words`, `dates`, `requests`, `payload`: what is read, a line with its payloads at a time;
 //! - `reply`, `due_dates`: what is written, and `buffer`, which holds it until a reply ends;
@@ -34,6 +35,7 @@ mod requests;
 mod session;
 mod stream;
 mod tally;
+mod tries;
 mod trouble;
 mod window;
 mod words;

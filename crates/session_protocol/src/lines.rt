@@ -2,9 +2,10 @@
 
 ghost use Rattle.std.specs.Prelude.{◌≡◌, ◌<◌, ◌⊎◌, ◌++◌, ◌∷◌, [], length, IfOk, Ok, ◌==◌};
 ghost use Rattle.session_protocol.specs.Lines.{line_of, line_as, cut_at};
-ghost use Rattle.session_protocol.specs.Streams.{TellsEnd, TellsTroubles};
+ghost use Rattle.session_protocol.specs.Told.{TellsReads};
 
-use crate::stream::{ReadFault, Source, read_one};
+use crate::stream::{ReadFault, Source};
+use crate::tries::read_one;
 use std::marker::Model;
 
 /// How many octets a line may have, without its LF.
@@ -92,9 +93,8 @@ pub fn read_line<S: Source>(source: &mut S, line: &mut LineBuffer) -> Result<Lin
         (λ end. line_of (S.left source.old) ≡ line_as end line.new (S.left source.new)) }
     ensures end { S.tells → (result ≡ Ok LineEnd.Cut) ⊎ (result ≡ Ok LineEnd.Nothing)
         → S.left source.new ≡ [] }
-    ensures ends { TellsEnd ((result ≡ Ok LineEnd.Cut) ⊎
-        (result ≡ Ok LineEnd.Nothing)) (S.ends source.old) (S.ends source.new) }
-    ensures troubles { TellsTroubles S.troubles result source.old source.new }
+    ensures told { TellsReads S.Source ((result ≡ Ok LineEnd.Cut) ⊎ (result ≡ Ok LineEnd.Nothing))
+        result source.old source.new }
 {
     line.clear();
     for _ in 0..LINE_OCTETS {

@@ -3,9 +3,10 @@
 
 ghost use Rattle.std.specs.Prelude.{◌≡◌, ◌+◌, ◌<◌, ◌≤◌, ◌++◌, [], length, drop, IfOk, Ok, None, true, false, vec_len, vec_capacity};
 ghost use Rattle.session_protocol.specs.Payloads.{IsRead, AreRead};
-ghost use Rattle.session_protocol.specs.Streams.{TellsEnd, TellsTroubles};
+ghost use Rattle.session_protocol.specs.Told.{TellsReads};
 
-use crate::stream::{ReadFault, Source, read_some};
+use crate::stream::{ReadFault, Source};
+use crate::tries::read_some;
 use desk_commands::Payload;
 use std::alloc::Global;
 
@@ -18,8 +19,7 @@ fn skip<S: Source>(source: &mut S, size: usize) -> Result<bool, ReadFault>
         (S.left source.new ≡ drop size (S.left source.old)) }
     ensures cut { S.tells → result ≡ Ok false → (length (S.left source.old) < size)
         × (S.left source.new ≡ []) }
-    ensures ends { TellsEnd (result ≡ Ok false) (S.ends source.old) (S.ends source.new) }
-    ensures troubles { TellsTroubles S.troubles result source.old source.new }
+    ensures told { TellsReads S.Source (result ≡ Ok false) result source.old source.new }
 {
     let mut room = [0u8; PIECE];
     let mut got = 0;
@@ -53,8 +53,7 @@ fn fill<S: Source>(source: &mut S, octets: &mut Vec<u8>, size: usize) -> Result<
     ensures size { result ≡ Ok true → length octets.new.items ≡ size }
     ensures cut { S.tells → result ≡ Ok false → (length (S.left source.old) < size)
         × (S.left source.new ≡ []) }
-    ensures ends { TellsEnd (result ≡ Ok false) (S.ends source.old) (S.ends source.new) }
-    ensures troubles { TellsTroubles S.troubles result source.old source.new }
+    ensures told { TellsReads S.Source (result ≡ Ok false) result source.old source.new }
 {
     let mut room = [0u8; PIECE];
     while octets.len() < size {
@@ -79,8 +78,7 @@ pub fn read_payload<S: Source>(
 ) -> Result<Option<Payload>, ReadFault>
     ensures octets { IfOk result
         (λ p. IsRead S.tells size limit p (S.left source.old) (S.left source.new)) }
-    ensures ends { TellsEnd (result ≡ Ok None) (S.ends source.old) (S.ends source.new) }
-    ensures troubles { TellsTroubles S.troubles result source.old source.new }
+    ensures told { TellsReads S.Source (result ≡ Ok None) result source.old source.new }
 {
     if size > limit {
         return Ok(skip(source, size)?.then_some(Payload::TooLong));
@@ -101,8 +99,7 @@ pub fn read_two<S: Source>(
 ) -> Result<Option<(Payload, Payload)>, ReadFault>
     ensures octets { IfOk result
         (λ p. AreRead S.tells sizes limits p (S.left source.old) (S.left source.new)) }
-    ensures ends { TellsEnd (result ≡ Ok None) (S.ends source.old) (S.ends source.new) }
-    ensures troubles { TellsTroubles S.troubles result source.old source.new }
+    ensures told { TellsReads S.Source (result ≡ Ok None) result source.old source.new }
 {
     let Some(first) = read_payload(alloc, source, sizes.0, limits.0)? else {
         return Ok(None);

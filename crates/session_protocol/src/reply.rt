@@ -3,8 +3,7 @@
 ghost use Rattle.std.specs.Prelude.{◌≡◌, ◌++◌, ℕ, [], codes, flat_map, map, OnOk};
 ghost use Rattle.record_archive.specs.Lines.{line_view};
 ghost use Rattle.session_protocol.specs.Replies.{answer_of, reply_octets, classes_octets, class_octets, refused_octets, outcome_octets, fault_octets, faults_octets, head_octets, ticket_octets, turn_octets, capture_octets, records_octets, list_octets, line_octets};
-ghost use Rattle.session_protocol.specs.Written.{Buffers, Writes};
-ghost use Rattle.session_protocol.specs.Streams.{TellsTroubles};
+ghost use Rattle.session_protocol.specs.Written.{Adds, WritesTo};
 
 use crate::buffer::{ReplyBuffer, buffer_all, buffer_pieces, flush};
 use crate::due_dates::buffer_due;
@@ -40,9 +39,7 @@ fn buffer_class<K: Sink>(
     buffer: &mut ReplyBuffer,
     path: &[u8],
 ) -> Result<(), WriteFault>
-    ensures written { K.tells → Buffers result (K.written sink.old) buffer.old
-        (class_octets path.now) (K.written sink.new) buffer.new }
-    ensures troubles { TellsTroubles K.troubles result sink.old sink.new }
+    ensures { Adds K.Sink result sink.old buffer.old (class_octets path.now) sink.new buffer.new }
 {
     buffer_pieces(
         sink,
@@ -57,9 +54,8 @@ fn buffer_classes<K: Sink>(
     buffer: &mut ReplyBuffer,
     paths: &[Text],
 ) -> Result<(), WriteFault>
-    ensures written { K.tells → Buffers result (K.written sink.old) buffer.old
-        (classes_octets paths.now) (K.written sink.new) buffer.new }
-    ensures troubles { TellsTroubles K.troubles result sink.old sink.new }
+    ensures { Adds K.Sink result sink.old buffer.old
+        (classes_octets paths.now) sink.new buffer.new }
 {
     if paths.is_empty() {
         return buffer_all(sink, buffer, b"discarded\n");
@@ -76,9 +72,7 @@ fn buffer_fault<K: Sink>(
     buffer: &mut ReplyBuffer,
     fault: RunFault,
 ) -> Result<(), WriteFault>
-    ensures written { K.tells → Buffers result (K.written sink.old) buffer.old
-        (fault_octets fault) (K.written sink.new) buffer.new }
-    ensures troubles { TellsTroubles K.troubles result sink.old sink.new }
+    ensures { Adds K.Sink result sink.old buffer.old (fault_octets fault) sink.new buffer.new }
 {
     let mut number = Buffer::new();
     let number = number.format(fault.number()).as_bytes();
@@ -95,9 +89,7 @@ fn buffer_faults<K: Sink>(
     buffer: &mut ReplyBuffer,
     fault: Option<RunFault>,
 ) -> Result<(), WriteFault>
-    ensures written { K.tells → Buffers result (K.written sink.old) buffer.old
-        (faults_octets fault) (K.written sink.new) buffer.new }
-    ensures troubles { TellsTroubles K.troubles result sink.old sink.new }
+    ensures { Adds K.Sink result sink.old buffer.old (faults_octets fault) sink.new buffer.new }
 {
     match fault {
         Some(fault) => buffer_fault(sink, buffer, fault),
@@ -111,9 +103,8 @@ fn buffer_outcome<K: Sink>(
     buffer: &mut ReplyBuffer,
     outcome: &Outcome,
 ) -> Result<(), WriteFault>
-    ensures written { K.tells → Buffers result (K.written sink.old) buffer.old
-        (outcome_octets outcome.now) (K.written sink.new) buffer.new }
-    ensures troubles { TellsTroubles K.troubles result sink.old sink.new }
+    ensures { Adds K.Sink result sink.old buffer.old
+        (outcome_octets outcome.now) sink.new buffer.new }
 {
     buffer_faults(sink, buffer, outcome.fault)?;
     buffer_classes(sink, buffer, outcome.classes.as_slice())
@@ -126,9 +117,8 @@ fn buffer_ticket<K: Sink>(
     ticket: u32,
     budget: u32,
 ) -> Result<(), WriteFault>
-    ensures written { K.tells → Buffers result (K.written sink.old) buffer.old
-        (ticket_octets ticket budget) (K.written sink.new) buffer.new }
-    ensures troubles { TellsTroubles K.troubles result sink.old sink.new }
+    ensures { Adds K.Sink result sink.old buffer.old
+        (ticket_octets ticket budget) sink.new buffer.new }
 {
     let mut number = Buffer::new();
     let number = number.format(ticket).as_bytes();
@@ -153,9 +143,8 @@ fn buffer_turn<K: Sink>(
     buffer: &mut ReplyBuffer,
     turn: Turn,
 ) -> Result<(), WriteFault>
-    ensures written { K.tells → Buffers result (K.written sink.old) buffer.old
-        (turn_octets turn.ended turn.steps) (K.written sink.new) buffer.new }
-    ensures troubles { TellsTroubles K.troubles result sink.old sink.new }
+    ensures { Adds K.Sink result sink.old buffer.old
+        (turn_octets turn.ended turn.steps) sink.new buffer.new }
 {
     let mut steps = Buffer::new();
     let steps = steps.format(turn.steps).as_bytes();
@@ -181,9 +170,8 @@ fn buffer_head<K: Sink>(
     number: u32,
     path: &[u8],
 ) -> Result<(), WriteFault>
-    ensures written { K.tells → Buffers result (K.written sink.old) buffer.old
-        (head_octets number path.now) (K.written sink.new) buffer.new }
-    ensures troubles { TellsTroubles K.troubles result sink.old sink.new }
+    ensures { Adds K.Sink result sink.old buffer.old
+        (head_octets number path.now) sink.new buffer.new }
 {
     let mut text = Buffer::new();
     let text = text.format(number).as_bytes();
@@ -206,9 +194,7 @@ fn buffer_record<K: Sink>(
     buffer: &mut ReplyBuffer,
     line: &Line,
 ) -> Result<(), WriteFault>
-    ensures written { K.tells → Buffers result (K.written sink.old) buffer.old
-        (line_octets line.now) (K.written sink.new) buffer.new }
-    ensures troubles { TellsTroubles K.troubles result sink.old sink.new }
+    ensures { Adds K.Sink result sink.old buffer.old (line_octets line.now) sink.new buffer.new }
 {
     buffer_head(sink, buffer, line.number, line.path.as_slice())?;
     buffer_due(sink, buffer, line.due)
@@ -220,9 +206,8 @@ fn buffer_list<K: Sink>(
     buffer: &mut ReplyBuffer,
     lines: &[Line],
 ) -> Result<(), WriteFault>
-    ensures written { K.tells → Buffers result (K.written sink.old) buffer.old
-        (flat_map line_octets lines.now) (K.written sink.new) buffer.new }
-    ensures troubles { TellsTroubles K.troubles result sink.old sink.new }
+    ensures { Adds K.Sink result sink.old buffer.old
+        (flat_map line_octets lines.now) sink.new buffer.new }
 {
     for line in lines {
         buffer_record(sink, buffer, line)?;
@@ -236,9 +221,8 @@ fn buffer_records<K: Sink>(
     buffer: &mut ReplyBuffer,
     lines: &[Line],
 ) -> Result<(), WriteFault>
-    ensures written { K.tells → Buffers result (K.written sink.old) buffer.old
-        (records_octets (map line_view lines.now)) (K.written sink.new) buffer.new }
-    ensures troubles { TellsTroubles K.troubles result sink.old sink.new }
+    ensures { Adds K.Sink result sink.old buffer.old
+        (records_octets (map line_view lines.now)) sink.new buffer.new }
 {
     if lines.is_empty() {
         return buffer_all(sink, buffer, b"discarded\n");
@@ -252,10 +236,9 @@ fn buffer_capture<K: Sink>(
     buffer: &mut ReplyBuffer,
     capture: &Capture,
 ) -> Result<(), WriteFault>
-    ensures written { K.tells → Buffers result (K.written sink.old) buffer.old
+    ensures { Adds K.Sink result sink.old buffer.old
         (capture_octets capture.now.fault (map line_view capture.now.lines.items))
-        (K.written sink.new) buffer.new }
-    ensures troubles { TellsTroubles K.troubles result sink.old sink.new }
+        sink.new buffer.new }
 {
     buffer_faults(sink, buffer, capture.fault)?;
     buffer_records(sink, buffer, capture.lines.as_slice())
@@ -267,9 +250,8 @@ fn buffer_due_list<K: Sink>(
     buffer: &mut ReplyBuffer,
     lines: &[Line],
 ) -> Result<(), WriteFault>
-    ensures written { K.tells → Buffers result (K.written sink.old) buffer.old
-        (list_octets (map line_view lines.now) ++ codes "ok\n") (K.written sink.new) buffer.new }
-    ensures troubles { TellsTroubles K.troubles result sink.old sink.new }
+    ensures { Adds K.Sink result sink.old buffer.old
+        (list_octets (map line_view lines.now) ++ codes "ok\n") sink.new buffer.new }
 {
     buffer_list(sink, buffer, lines)?;
     buffer_all(sink, buffer, b"ok\n")
@@ -281,9 +263,8 @@ fn buffer_refusal<K: Sink>(
     buffer: &mut ReplyBuffer,
     refusal: Refusal,
 ) -> Result<(), WriteFault>
-    ensures written { K.tells → Buffers result (K.written sink.old) buffer.old
-        (refused_octets refusal.number refusal.offset) (K.written sink.new) buffer.new }
-    ensures troubles { TellsTroubles K.troubles result sink.old sink.new }
+    ensures { Adds K.Sink result sink.old buffer.old
+        (refused_octets refusal.number refusal.offset) sink.new buffer.new }
 {
     let mut number = Buffer::new();
     let number = number.format(refusal.number).as_bytes();
@@ -315,9 +296,8 @@ fn buffer_reply<K: Sink>(
     buffer: &mut ReplyBuffer,
     reply: &Reply,
 ) -> Result<(), WriteFault>
-    ensures written { K.tells → Buffers result (K.written sink.old) buffer.old
-        (reply_octets (answer_of reply.now)) (K.written sink.new) buffer.new }
-    ensures troubles { TellsTroubles K.troubles result sink.old sink.new }
+    ensures { Adds K.Sink result sink.old buffer.old
+        (reply_octets (answer_of reply.now)) sink.new buffer.new }
 {
     match reply {
         Reply::Done => buffer_all(sink, buffer, b"ok\n"),
@@ -338,10 +318,9 @@ pub fn write_reply<K: Sink>(
     reply: &Reply,
 ) -> Result<(), WriteFault>
     requires { buffer.old ≡ [] }
-    ensures written { K.tells → Writes result (K.written sink.old)
-        (reply_octets (answer_of reply.now)) (K.written sink.new) }
+    ensures writes { WritesTo K.Sink result sink.old
+        (reply_octets (answer_of reply.now)) sink.new }
     ensures empty { OnOk result (buffer.new ≡ []) }
-    ensures troubles { TellsTroubles K.troubles result sink.old sink.new }
 {
     buffer_reply(sink, buffer, reply)?;
     flush(sink, buffer)

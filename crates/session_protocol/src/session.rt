@@ -4,14 +4,15 @@ ghost use Rattle.std.specs.Prelude.{◌≡◌, ◌≢◌, OnOk, Ok, Err, IsErrOf
 ghost use Rattle.desk_commands.specs.Calls.{Calls};
 ghost use Rattle.session_protocol.specs.Done.{HasDone, Hears, Says};
 ghost use Rattle.session_protocol.specs.Session.{session_in, ending_octets, left_by, IsServed, IsAnswered, IsCut, EndsByInput};
-ghost use Rattle.session_protocol.specs.Streams.{Rises, StreamFails, TellsTroubles, TriesOn};
-ghost use Rattle.session_protocol.specs.Written.{Writes};
+ghost use Rattle.session_protocol.specs.Streams.{Rises, StreamFails, TriesOn};
+ghost use Rattle.session_protocol.specs.Written.{WritesTo};
 
 use crate::buffer::ReplyBuffer;
 use crate::items::{Reaction, SessionEnd, next};
 use crate::lines::LineBuffer;
 use crate::reply::write_reply;
-use crate::stream::{Sink, Source, write_all};
+use crate::stream::{Sink, Source};
+use crate::tries::write_all;
 use desk_commands::Registry;
 use std::alloc::Global;
 use thiserror::Error;
@@ -43,10 +44,8 @@ fn ending_text(ending: SessionEnd) -> &'static str
 
 /// Writes the last lines of a session.
 fn write_ending<K: Sink>(sink: &mut K, ending: SessionEnd) -> Result<(), ServeFault>
-    ensures written { K.tells
-        → Writes result (K.written sink.old) (ending_octets ending) (K.written sink.new) }
+    ensures writes { WritesTo K.Sink result sink.old (ending_octets ending) sink.new }
     ensures read { result ≢ Err ServeFault.Read }
-    ensures troubles { TellsTroubles K.troubles result sink.old sink.new }
 {
     if write_all(sink, ending_text(ending).as_bytes()).is_err() {
         return Err(ServeFault::Write);

@@ -1,7 +1,7 @@
 //! How the troubles of a stream are counted.
 
-ghost use Rattle.std.specs.Prelude.{◌≡◌, max, not};
-ghost use Rattle.session_protocol.specs.Streams.{Counts, CountsInARow, is_failed, no_troubles};
+ghost use Rattle.std.specs.Prelude.{◌≡◌, false, not};
+ghost use Rattle.session_protocol.specs.Streams.{CountsCall, is_failed, no_troubles};
 
 use crate::stream::Trouble;
 
@@ -37,13 +37,8 @@ impl Tally {
     /// Counts a trouble, and answers it.
     pub fn count(&mut self, trouble: Trouble) -> Trouble
         ensures same { result ≡ trouble }
-        ensures failures { Counts (is_failed trouble) self.old.failures self.new.failures }
-        ensures interruptions { CountsInARow
-            (not (is_failed trouble)) self.old.interruptions self.new.interruptions }
-        ensures most { self.new.most_interruptions
-            ≡ max self.old.most_interruptions self.new.interruptions }
-        ensures all { Counts
-            (not (is_failed trouble)) self.old.all_interruptions self.new.all_interruptions }
+        ensures counted { CountsCall (is_failed trouble) (not (is_failed trouble))
+            self.old self.new }
     {
         match trouble {
             Trouble::Interrupted => {
@@ -62,11 +57,7 @@ impl Tally {
     /// Counts a call that met no trouble, and answers how many octets it moved.
     pub fn count_moved(&mut self, count: usize) -> usize
         ensures same { result ≡ count }
-        ensures failures { self.new.failures ≡ self.old.failures }
-        ensures interruptions { self.new.interruptions ≡ 0 }
-        ensures most { self.new.most_interruptions
-            ≡ max self.old.most_interruptions self.new.interruptions }
-        ensures all { self.new.all_interruptions ≡ self.old.all_interruptions }
+        ensures counted { CountsCall false false self.old self.new }
     {
         self.interruptions = 0;
         count

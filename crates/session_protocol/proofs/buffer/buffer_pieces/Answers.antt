@@ -1,36 +1,19 @@
-use Rattle.std.proofs.Common.{arith, refl, []}
-use Rattle.std.specs.Prelude.{flat_map}
-use Rattle.std.proofs.lemmas.Grind.{common_steps}
-use Rattle.session_protocol.proofs.Buffering.{as_short, none_sent, sends_all, sends_next, short_next}
+use Rattle.std.proofs.Common.{arith, []}
+use Rattle.session_protocol.proofs.Adding.{adds_all, adds_cut, adds_next, adds_nothing}
 use Rattle.session_protocol.proofs.buffer.buffer_pieces.Goals as goal
 
 pub loop-piece-init : goal.loop-piece-init
-loop-piece-init g c = record {
-  written = λ k. none_sent c.args.buffer.now (g.K.Sink.written c.args.sink.now);
-  over = omega arith;
-  patient = omega arith;
-  failures = refl;
-  all = omega arith;
-}
+loop-piece-init g c = adds_nothing _ _
 
 pub loop-piece-preserved : goal.loop-piece-preserved
-loop-piece-preserved g c = record {
-  written = λ k.
-      sends_next (λ p. p.now) c.args.pieces.now c.loop-piece.piece-index (record { ref_ptr = (0, 0); now = [] }) _ _ _ _ _ _
-      (omega arith) (c.loop-piece.invariant.written k) (c.in_ok-buffer_all.ensures.written k);
-  over = grind (arith, common_steps);
-  patient = grind (arith, common_steps);
-  failures = grind (arith, common_steps);
-  all = grind (arith, common_steps);
-}
+loop-piece-preserved g c =
+    adds_next (λ p. p.now) c.args.pieces.now c.loop-piece.piece-index (record { ref_ptr = (0, 0); now = [] }) (omega arith)
+    c.loop-piece.invariant c.in_ok-buffer_all.ensures
 
-pub returns-in_err-buffer_all-clause-written : goal.returns-in_err-buffer_all-clause-written
-returns-in_err-buffer_all-clause-written g c = λ k.
-    as_short c.from_residual.result c.args.buffer.now (flat_map (λ p. p.now) c.args.pieces.now) _ _ c.buffer_all.new.buffer
-    c.from_residual.ensures.0
-    (short_next (λ p. p.now) c.args.pieces.now c.loop-piece.piece-index (record { ref_ptr = (0, 0); now = [] }) _ _ _ _ _
-    (omega arith) (c.loop-piece.invariant.written k) (c.in_err-buffer_all.ensures.written k))
+pub returns-in_err-buffer_all : goal.returns-in_err-buffer_all
+returns-in_err-buffer_all g c =
+    adds_cut (λ p. p.now) c.args.pieces.now c.loop-piece.piece-index c.from_residual.result (record { ref_ptr = (0, 0); now = [] })
+    (omega arith) c.from_residual.ensures.0 c.loop-piece.invariant c.in_err-buffer_all.ensures
 
-pub returns-clause-written : goal.returns-clause-written
-returns-clause-written g c = λ k.
-    sends_all (λ p. p.now) c.args.pieces.now c.loop-piece.piece-index _ _ _ _ (omega arith) (c.loop-piece.invariant.written k)
+pub returns : goal.returns
+returns g c = adds_all (λ p. p.now) c.args.pieces.now c.loop-piece.piece-index (omega arith) c.loop-piece.invariant

@@ -1,15 +1,13 @@
-use Rattle.std.proofs.Common.{◌≡◌, ◌++◌, ◌∙◌, ℕ, List, subst, sym, ap, codes, FitsSigned, w8, w16}
+use Rattle.std.proofs.Common.{◌≡◌, ◌++◌, ◌∙◌, sym, ap, codes, FitsSigned, w8, w16}
 use Rattle.std.specs.Prelude.{unsigned_abs}
 use Rattle.std.proofs.lemmas.Int.{to_z-of_z}
 use Rattle.session_protocol.specs.Dates.{civil_octets}
-use Rattle.session_protocol.specs.Written.{Buffers}
+use Rattle.session_protocol.proofs.Adding.{adds_same}
 use Rattle.session_protocol.proofs.DayLemmas.{day_text, month_fits, day_fits, year_fits}
 use Rattle.session_protocol.proofs.due_dates.buffer_date.Goals as goal
 
-pub returns-clause-written : goal.returns-clause-written
-returns-clause-written g c = λ k.
-    let P : List ℕ → Type 0 = λ s. Buffers c.buffer_civil.result (g.K.Sink.written c.args.sink.now) c.args.buffer.now (s
-    ++ codes "\n") (g.K.Sink.written c.buffer_civil.new.sink) c.buffer_civil.new.buffer in
+pub returns : goal.returns
+returns g c =
     let year_in : FitsSigned w16 c.year.result = year_fits c.args.date c.year.result c.year.ensures in
     let month_in : FitsSigned w8 c.month.result = month_fits c.args.date c.month.result c.month.ensures in
     let day_in : FitsSigned w8 c.day.result = day_fits c.args.date c.day.result c.day.ensures in
@@ -32,4 +30,4 @@ returns-clause-written g c = λ k.
           c.args.date.day;
     }) =
     λ i. civil_octets (record { year = year i; month = month i; day = day i }) in
-    subst P (parts ∙ sym (day_text c.args.date c.requires)) (c.buffer_civil.ensures.written k)
+    adds_same (ap (λ s. s ++ codes "\n") (parts ∙ sym (day_text c.args.date c.requires))) c.buffer_civil.ensures

@@ -1,6 +1,6 @@
 use Rattle.std.proofs.Common.{◌≡◌, ◌-◌, ◌≤◌, ◌++◌}
 use Rattle.std.specs.Prelude.{vec_len, vec_capacity}
-use Rattle.session_protocol.specs.Streams.{most_with}
+use Rattle.session_protocol.proofs.Troubles.{Outlasts}
 use Rattle.session_protocol.proofs.payload.fill.Given as goal
 
 abbrev pub invariant-loop-room : goal.invariant-loop-room
@@ -9,10 +9,7 @@ invariant-loop-room g l = record {
   room : l.size ≤ vec_capacity l.octets;
   rest : g.S.Source.tells → g.S.Source.left l.fn.source ≡ l.octets.items ++ g.S.Source.left l.source;
   ends : g.S.Source.ends l.fn.source ≤ g.S.Source.ends l.source;
-  over : (g.S.Source.troubles l.source).interruptions ≤ (g.S.Source.troubles l.fn.source).interruptions;
-  patient : (g.S.Source.troubles l.source).most_interruptions ≤ most_with (g.S.Source.troubles l.fn.source) 63;
-  failures : (g.S.Source.troubles l.source).failures ≡ (g.S.Source.troubles l.fn.source).failures;
-  all : (g.S.Source.troubles l.fn.source).all_interruptions ≤ (g.S.Source.troubles l.source).all_interruptions;
+  troubles : Outlasts g.S.Source.troubles l.fn.source l.source;
 }
 
 abbrev pub decreases-loop-room : goal.decreases-loop-room

@@ -1,6 +1,7 @@
 use Rattle.std.proofs.Common.{◌≤◌, arith, length}
 use Rattle.std.proofs.lemmas.Grind.{common_steps}
 use Rattle.session_protocol.proofs.Skips.{passed_over, at_end}
+use Rattle.session_protocol.proofs.Troubles.{outlasts_on}
 use Rattle.session_protocol.proofs.payload.skip.Goals as goal
 
 pub returns-then-count-eq0-clause-cut : goal.returns-then-count-eq0-clause-cut
@@ -22,8 +23,5 @@ loop-got-preserved g c =
       rest = λ t. (passed_over _ _ _ c.read_some.new.room _ _ (c.loop-got.invariant.enough t)
           (c.loop-got.invariant.rest t) (c.in_ok-count.ensures.octets t) fits).1;
       ends = grind (arith, common_steps);
-      over = grind (arith, common_steps);
-      patient = grind (arith, common_steps);
-      failures = grind (arith, common_steps);
-      all = grind (arith, common_steps);
+      troubles = outlasts_on g.S.Source.troubles _ _ _ c.loop-got.invariant.troubles c.in_ok-count.ensures.told.troubles;
     }

@@ -2,7 +2,7 @@ use Rattle.std.proofs.Common.{[], ◌≡◌, ◌-◌, ◌≤◌}
 use Rattle.desk_commands.specs.Calls.{Calls}
 use Rattle.session_protocol.specs.Session.{session_of, left_by}
 use Rattle.session_protocol.proofs.Served.{Doing}
-use Rattle.session_protocol.specs.Streams.{most_with}
+use Rattle.session_protocol.proofs.Troubles.{Outlasts}
 use Rattle.session_protocol.proofs.session.serve.Given as goal
 
 abbrev pub invariant-loop : goal.invariant-loop
@@ -13,12 +13,6 @@ invariant-loop g l = record {
   empty : l.buffer ≡ [];
   unread : g.S.Source.tells → left_by 1000000 (g.S.Source.left l.fn.source) ≡ left_by (1000000 - l.counter) (g.S.Source.left l.source);
   ends : g.S.Source.ends l.fn.source ≤ g.S.Source.ends l.source;
-  reads_over : (g.S.Source.troubles l.source).interruptions ≤ (g.S.Source.troubles l.fn.source).interruptions;
-  reads : (g.S.Source.troubles l.source).most_interruptions ≤ most_with (g.S.Source.troubles l.fn.source) 63;
-  writes_over : (g.K.Sink.troubles l.sink).interruptions ≤ (g.K.Sink.troubles l.fn.sink).interruptions;
-  writes : (g.K.Sink.troubles l.sink).most_interruptions ≤ most_with (g.K.Sink.troubles l.fn.sink) 63;
-  reads_all : (g.S.Source.troubles l.fn.source).all_interruptions ≤ (g.S.Source.troubles l.source).all_interruptions;
-  writes_all : (g.K.Sink.troubles l.fn.sink).all_interruptions ≤ (g.K.Sink.troubles l.sink).all_interruptions;
-  read_failures : (g.S.Source.troubles l.source).failures ≡ (g.S.Source.troubles l.fn.source).failures;
-  write_failures : (g.K.Sink.troubles l.sink).failures ≡ (g.K.Sink.troubles l.fn.sink).failures;
+  reads : Outlasts g.S.Source.troubles l.fn.source l.source;
+  writes : Outlasts g.K.Sink.troubles l.fn.sink l.sink;
 }

@@ -1,6 +1,6 @@
 use Rattle.std.proofs.Common.{◌≡◌, ◌+◌, ◌≤◌}
 use Rattle.session_protocol.specs.Streams.{RisesBy, most_with}
-use Rattle.session_protocol.proofs.stream.read_some.Given as goal
+use Rattle.session_protocol.proofs.tries.read_some.Given as goal
 
 abbrev pub invariant-loop : goal.invariant-loop
 invariant-loop g l = record {
