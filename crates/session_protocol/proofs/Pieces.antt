@@ -1,7 +1,7 @@
 -- Writing in pieces.
 use Rattle.std.proofs.Common.{◌≡◌, ℕ, ◌+◌, ◌<◌, List, ◌∷◌, ◌++◌, length, take, drop, get_or, ap, sym, ◌∙◌, append_assoc, add-one}
 use Rattle.std.specs.Prelude.{flat_map, Result, Ok, Err, OnOk}
-use Rattle.std.specs.Result.{IsErr, is_err}
+use Rattle.std.specs.Result.{is_err}
 use Rattle.std.specs.Prelude.{true, false}
 use Rattle.std.proofs.Math.Seq.{take-append-add, drop-cons}
 use Rattle.std.proofs.lemmas.Bool.{false≢true}
