@@ -61,10 +61,7 @@ pub struct NamedRules {
 
 impl Drop for NamedRules {
     fn drop(self) {
-        let NamedRules {
-            officer: _,
-            sum: _,
-        } = self;
+        let NamedRules { officer: _, sum: _ } = self;
     }
 }
 

@@ -150,10 +150,7 @@ struct GroupRows {
 
 impl Drop for GroupRows {
     fn drop(self) {
-        let GroupRows {
-            keyed: _,
-            rows: _,
-        } = self;
+        let GroupRows { keyed: _, rows: _ } = self;
     }
 }
 
