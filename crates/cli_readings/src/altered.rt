@@ -106,12 +106,7 @@ impl Altered {
         self.numbers.is_empty()
     }
 
-    /// Tells which records these are, in one line, where there is one.
-    pub fn tell(&self, rt: &HostRuntime) -> Result<(), AllocError> {
-        self.tell_in(rt, None)
-    }
-
-    /// The same of records of a volume, which is named.
+    /// Tells which records these are, in one line, where there is one: those of a volume with its number, in an archive of volumes.
     pub fn tell_in(&self, rt: &HostRuntime, volume: Option<u32>) -> Result<(), AllocError> {
         if !self.is_empty() {
             tell(

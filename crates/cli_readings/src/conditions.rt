@@ -12,6 +12,16 @@ fn is_plain(c: char) -> bool {
     c.is_alphanumeric() || matches!(c, '-' | '_' | '.' | '/' | ':' | '@' | ',' | '+')
 }
 
+/// Whether a word means nothing but itself to a shell.
+fn is_plain_word(word: &str) -> bool {
+    for c in word.chars() {
+        if !is_plain(c) {
+            return false;
+        }
+    }
+    !word.is_empty()
+}
+
 /// Adds a character of a word that stands between apostrophes.
 fn push_quoted(text: &mut String, c: char) -> Result<(), AllocError> {
     match c {
@@ -26,7 +36,7 @@ fn push_word(text: &mut String, word: &str) -> Result<(), AllocError> {
     if !text.is_empty() {
         text.push(' ')?;
     }
-    if !word.is_empty() && word.chars().all(|c| is_plain(c)) {
+    if is_plain_word(word) {
         return text.push_str(word);
     }
     text.push('\'')?;

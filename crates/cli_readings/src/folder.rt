@@ -36,12 +36,15 @@ pub fn judge_free(rt: &HostRuntime, folder: &str, name: &str) -> Result<(), Fail
 /// A new file of a folder, which only its owner may read. One that is there is not replaced.
 pub fn make_file(rt: &HostRuntime, folder: &str, name: &str) -> Result<File, Failure> {
     let path = format!(in rt.alloc(); "{folder}/{name}")?;
-    OpenOptions::new()
+    let made = OpenOptions::new()
         .write(true)
         .create_new(true)
         .mode(MODE)
-        .open(rt, path.as_str())
-        .map_err(|error| file_failure(rt, path.as_str(), error))
+        .open(rt, path.as_str());
+    match made {
+        Ok(file) => Ok(file),
+        Err(error) => Err(file_failure(rt, path.as_str(), error)),
+    }
 }
 
 /// Writes octets to a file of a folder.
@@ -51,8 +54,10 @@ pub fn write_to(
     file: &mut File,
     octets: &[u8],
 ) -> Result<(), Failure> {
-    file.write_all(octets)
-        .map_err(|error| file_failure(rt, folder, error))
+    match file.write_all(octets) {
+        Ok(()) => Ok(()),
+        Err(error) => Err(file_failure(rt, folder, error)),
+    }
 }
 
 /// Makes the folder, if it is not there.

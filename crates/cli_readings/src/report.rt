@@ -15,7 +15,7 @@ use cli_choice::Questions;
 use cli_console::{Failure, Reader, Search, Status, is_by, now, today, write_data};
 use cli_history::Titles;
 use cli_page::{Heading, Page, Record, Report, ReportFault};
-use cli_texts::{Headers, ListedTitle, moment_text};
+use cli_texts::{Headers, moment_text};
 use command_lines::archives::Choice;
 use record_choice::Repository;
 use record_store::{RecordEntry, Store, StoreFault};
@@ -143,25 +143,6 @@ pub(crate) fn report_of<R: Repository<Fault = StoreFault>>(
     search.read_found(rt, archive, reporting)
 }
 
-/// What stands at the head of a report.
-fn heading_of<'a>(
-    file: &'a str,
-    day: Date,
-    today: Date,
-    moment: &'a str,
-    conditions: Option<&'a str>,
-    titles: &'a [ListedTitle<'a>],
-) -> Heading<'a> {
-    Heading {
-        file,
-        day,
-        today,
-        moment,
-        conditions,
-        titles,
-    }
-}
-
 /// Writes the page of a report on the records of a store, or an archive, of this name that meet these conditions.
 pub(crate) fn write_page(
     rt: &HostRuntime,
@@ -173,20 +154,19 @@ pub(crate) fn write_page(
 ) -> Result<(), Failure> {
     let titles = titles.listed()?;
     let moment = moment_text(rt.alloc(), now(rt)?)?;
-    let heading = heading_of(
+    let heading = Heading {
         file,
-        reporting.day,
-        today(rt)?,
-        moment.as_str(),
+        day: reporting.day,
+        today: today(rt)?,
+        moment: moment.as_str(),
         conditions,
-        titles.as_slice(),
-    );
+        titles: titles.as_slice(),
+    };
     let mut page = Page::new(rt.alloc());
-    reporting
-        .report
-        .write(&mut page, plan, &heading)
-        .map_err(|fault| report_failure(rt, fault))?;
-    write_data(rt, page.as_str().as_bytes())
+    match reporting.report.write(&mut page, plan, &heading) {
+        Ok(()) => write_data(rt, page.as_str().as_bytes()),
+        Err(fault) => Err(report_failure(rt, fault)),
+    }
 }
 
 /// Writes a report by a day to standard output, as a page of HTML that names the store's file. It is on the records that

@@ -10,26 +10,40 @@ ghost use Rattle.cli_readings.specs.Shows.{IsEntryOf, is_unaltered};
 use cli_console::{Failure, Status, write_data, write_text};
 use cli_history::{Fidelity, Seals, altered_words};
 use command_lines::archives::TypedNumber;
-use mail_head::read_head;
+use mail_head::{Field, read_head};
 use mail_words::value_of;
 use record_choice::Repository;
 use record_store::{RecordEntry, Store, StoreFault};
 use sqlite::Alter;
-use std::alloc::Global;
+use std::alloc::{AllocError, Global};
 use tool_texts::{Shown, put};
 
-/// Writes the fields of a message as the archive reads them, a line each, numbered from 1.
-fn write_fields(rt: &HostRuntime, message: &[u8]) -> Result<(), Failure> {
-    let alloc = rt.alloc();
-    let mut text = Shown::new(alloc);
+/// Adds a field of a message as the archive reads it, in a line with its number.
+fn put_field(
+    alloc: Global,
+    text: &mut Shown,
+    number: usize,
+    field: &Field<'_>,
+) -> Result<(), AllocError> {
+    let value = value_of(alloc, field.raw())?;
+    put!(text; "field " value(&number) " " named(field.name()) " " quoted(value.as_slice()))?;
+    text.end_line()
+}
+
+/// Adds the fields of a message as the archive reads them, a line each, numbered from 1.
+fn put_fields(alloc: Global, text: &mut Shown, message: &[u8]) -> Result<(), AllocError> {
     put!(text; "message of " value(&message.len()) " octets")?;
     text.end_line()?;
     for (index, field) in read_head(alloc, message)?.fields().iter().enumerate() {
-        let number = index.saturating_add(1);
-        let value = value_of(alloc, field.raw())?;
-        put!(text; "field " value(&number) " " named(field.name()) " " quoted(value.as_slice()))?;
-        text.end_line()?;
+        put_field(alloc, text, index.saturating_add(1), field)?;
     }
+    Ok(())
+}
+
+/// Writes the fields of a message as the archive reads them, a line each, numbered from 1.
+fn write_fields(rt: &HostRuntime, message: &[u8]) -> Result<(), Failure> {
+    let mut text = Shown::new(rt.alloc());
+    put_fields(rt.alloc(), &mut text, message)?;
     write_text(rt, &text)
 }
 

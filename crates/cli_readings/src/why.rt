@@ -5,7 +5,7 @@ use crate::show::{entry_of, message_of_entry};
 use class_plan::{Date, Plan, day_number};
 use cli_console::{Failure, Status, write_data, write_text};
 use cli_history::last_refiling;
-use cli_sources::{Script, read_rules};
+use cli_sources::{Rules, Script, read_rules};
 use cli_texts::{ListedHeaders, listed_line, plan_text, undecoded_lines};
 use command_lines::archives::{TypedNumber, Why};
 use desk_commands::Payload;
@@ -89,34 +89,64 @@ fn script_file(
     let Some(text) = whole_text(text)? else {
         return Err(not_good(rt, path.as_str()));
     };
-    script_of(rt.alloc(), path.as_str(), location, text)?.ok_or_else(|| not_good(rt, path.as_str()))
+    match script_of(rt.alloc(), path.as_str(), location, text)? {
+        Some(file) => Ok(file),
+        None => Err(not_good(rt, path.as_str())),
+    }
+}
+
+/// Adds an officer's own scripts to others, but for the program, which becomes the main one.
+fn add_own(
+    rt: &HostRuntime,
+    scripts: Vec<Script>,
+    main: &mut Option<ScriptFile>,
+    others: &mut Vec<ScriptFile>,
+) -> Result<(), Failure> {
+    for script in scripts {
+        if script.name.as_str() == "main" {
+            *main = Some(script_file(rt, script, Location::Personal)?);
+        } else {
+            others.push(script_file(rt, script, Location::Personal)?)?;
+        }
+    }
+    Ok(())
+}
+
+/// Adds scripts of all officers to others.
+fn add_global(
+    rt: &HostRuntime,
+    scripts: Vec<Script>,
+    others: &mut Vec<ScriptFile>,
+) -> Result<(), Failure> {
+    for script in scripts {
+        others.push(script_file(rt, script, Location::Global)?)?;
+    }
+    Ok(())
 }
 
 /// The scripts of an officer in a folder of rules.
 fn read_scripts(rt: &HostRuntime, folder: &str, officer: &str) -> Result<Scripts, Failure> {
     let alloc = rt.alloc();
-    let rules = read_rules(rt, folder, officer).map_err(|fault| Failure::shown(
-        Status::TryAgain,
-        fault.text(alloc),
-    ))?;
+    let rules = match read_rules(rt, folder, officer) {
+        Ok(rules) => rules,
+        Err(fault) => return Err(Failure::shown(Status::TryAgain, fault.text(alloc))),
+    };
+    let Rules {
+        scripts,
+        globals,
+        ..
+    } = rules;
     let mut main = None;
     let mut others = Vec::new(alloc);
-    for script in rules.scripts {
-        let is_main = script.name.as_str() == "main";
-        let script = script_file(rt, script, Location::Personal)?;
-        if is_main {
-            main = Some(script);
-        } else {
-            others.push(script)?;
-        }
-    }
-    for script in rules.globals {
-        others.push(script_file(rt, script, Location::Global)?)?;
-    }
+    add_own(rt, scripts, &mut main, &mut others)?;
+    add_global(rt, globals, &mut others)?;
     let Some(main) = main else {
         return Err(Failure::told(alloc, Status::NoInput, "no script main.sieve"));
     };
-    Scripts::new(alloc, main, others).map_err(|fault| failure_of(rt, fault))
+    match Scripts::new(alloc, main, others) {
+        Ok(scripts) => Ok(scripts),
+        Err(fault) => Err(failure_of(rt, fault)),
+    }
 }
 
 /// A record of an archive as it was captured, with the plan of today and with the event by which it got another class. `BadData`
@@ -169,47 +199,53 @@ fn answer_by(
         message,
         moment: moment_of(captured.entry.day),
     };
-    answer_to(alloc, &inquiry, Form::Lines).map_err(|fault| failure_of(rt, fault))
+    match answer_to(alloc, &inquiry, Form::Lines) {
+        Ok(answer) => Ok(answer),
+        Err(fault) => Err(failure_of(rt, fault)),
+    }
 }
 
-/// Ends a text by an outcome in one line, and writes it.
-fn write_outcome(rt: &HostRuntime, text: Shown, outcome: &Outcome) -> Result<(), Failure> {
-    let mut text = text;
-    text.escaped(&outcome_line(rt.alloc(), outcome)?)?;
+/// Ends a text by an outcome in one line.
+fn put_outcome(alloc: Global, text: &mut Shown, outcome: &Outcome) -> Result<(), AllocError> {
+    let line = outcome_line(alloc, outcome)?;
+    text.escaped(&line)?;
+    text.end_line()
+}
+
+/// Adds an outcome, a line for the fault, if there is one, and for each class.
+fn put_outcome_lines(alloc: Global, text: &mut Shown, outcome: &Outcome) -> Result<(), AllocError> {
+    let octets = outcome_text(alloc, outcome)?;
+    for line in octets.split(|octet| *octet == b'\n') {
+        if !line.is_empty() {
+            text.escaped(line)?;
+            text.end_line()?;
+        }
+    }
+    Ok(())
+}
+
+/// Adds whether the rules of today file a message in its class again.
+fn put_verdict(text: &mut Shown, path: &[u8], outcome: &Outcome) -> Result<(), AllocError> {
     text.end_line()?;
+    if is_filed_in(outcome, path) {
+        put!(text; "the rules of today file it in " named(path) " again: ")
+    } else {
+        put!(text; "the rules of today do not file it in " named(path) ": ")
+    }
+}
+
+/// Writes what becomes of a message, a line for the fault, if there is one, and for each class, and whether the rules of today
+/// file it in the class of its record again.
+fn write_verdict(rt: &HostRuntime, entry: &RecordEntry, outcome: &Outcome) -> Result<(), Failure> {
+    let mut text = Shown::new(rt.alloc());
+    put_outcome_lines(rt.alloc(), &mut text, outcome)?;
+    put_verdict(&mut text, entry.path.as_slice(), outcome)?;
+    put_outcome(rt.alloc(), &mut text, outcome)?;
     write_text(rt, &text)
 }
 
-/// An outcome, a line for the fault, if there is one, and for each class.
-fn outcome_lines(alloc: Global, outcome: &Outcome) -> Result<Shown, AllocError> {
-    let octets = outcome_text(alloc, outcome)?;
-    let mut text = Shown::new(alloc);
-    for line in octets
-        .split(|octet| *octet == b'\n')
-        .filter(|line| !line.is_empty())
-    {
-        text.escaped(line)?;
-        text.end_line()?;
-    }
-    Ok(text)
-}
-
-/// Writes whether the rules of today file a message in the class of its record again.
-fn write_verdict(rt: &HostRuntime, entry: &RecordEntry, answer: &Answer) -> Result<(), Failure> {
-    let path = entry.path.as_slice();
-    let mut text = Shown::new(rt.alloc());
-    text.end_line()?;
-    if is_filed_in(&answer.outcome, path) {
-        put!(text; "the rules of today file it in " named(path) " again: ")?;
-    } else {
-        put!(text; "the rules of today do not file it in " named(path) ": ")?;
-    }
-    write_outcome(rt, text, &answer.outcome)
-}
-
-/// Where the run of former rules parts from that of today's, if it does.
-fn parting_lines(alloc: Global, today: &Answer, former: &Answer) -> Result<Shown, AllocError> {
-    let mut text = Shown::new(alloc);
+/// Adds where the run of former rules parts from that of today's, if it does.
+fn put_parting(text: &mut Shown, today: &Answer, former: &Answer) -> Result<(), AllocError> {
     match first_parting(&today.events, &former.events) {
         Some(parting) => {
             text.words("the first difference")?;
@@ -220,16 +256,15 @@ fn parting_lines(alloc: Global, today: &Answer, former: &Answer) -> Result<Shown
         }
         None => text.words("both runs come to the same")?,
     }
-    text.end_line()?;
-    Ok(text)
+    text.end_line()
 }
 
 /// Writes what the rules of former times make of a message, and where their run parts from that of today.
 fn write_parting(rt: &HostRuntime, today: &Answer, former: &Answer) -> Result<(), Failure> {
     let mut text = Shown::new(rt.alloc());
     text.words("the former rules: ")?;
-    write_outcome(rt, text, &former.outcome)?;
-    let text = parting_lines(rt.alloc(), today, former)?;
+    put_outcome(rt.alloc(), &mut text, &former.outcome)?;
+    put_parting(&mut text, today, former)?;
     write_text(rt, &text)
 }
 
@@ -271,8 +306,7 @@ fn write_answer(rt: &HostRuntime, captured: &Captured, answer: &Answer) -> Resul
     write_record(rt, captured)?;
     write_data(rt, b"\n")?;
     write_report(rt, &answer.text)?;
-    write_text(rt, &outcome_lines(rt.alloc(), &answer.outcome)?)?;
-    write_verdict(rt, &captured.entry, answer)
+    write_verdict(rt, &captured.entry, &answer.outcome)
 }
 
 /// Writes which words of a message's fields rules see undecoded.
@@ -285,6 +319,23 @@ fn write_undecoded(rt: &HostRuntime, message: &[u8]) -> Result<(), Failure> {
     Ok(())
 }
 
+/// Writes why a record with a message is in its class, by what becomes of the message by the rules of today.
+fn explain_by(
+    rt: &HostRuntime,
+    asked: &Why<'_>,
+    captured: &Captured,
+    message: &[u8],
+    today: &Answer,
+) -> Result<(), Failure> {
+    write_answer(rt, captured, today)?;
+    write_undecoded(rt, message)?;
+    let Some(folder) = asked.formerly else {
+        return Ok(());
+    };
+    let former = answer_by_rules(rt, folder, asked.officer, captured, message)?;
+    write_parting(rt, today, &former)
+}
+
 /// Writes why a record with a message is in its class.
 fn explain(
     rt: &HostRuntime,
@@ -293,13 +344,7 @@ fn explain(
     message: &[u8],
 ) -> Result<(), Failure> {
     let today = answer_by_rules(rt, asked.rules, asked.officer, captured, message)?;
-    write_answer(rt, captured, &today)?;
-    write_undecoded(rt, message)?;
-    let Some(folder) = asked.formerly else {
-        return Ok(());
-    };
-    let former = answer_by_rules(rt, folder, asked.officer, captured, message)?;
-    write_parting(rt, &today, &former)
+    explain_by(rt, asked, captured, message, &today)
 }
 
 /// Writes why a record is in its class: the record, the event by which it was refiled, if it was, a report on the run of today's
