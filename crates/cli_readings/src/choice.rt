@@ -140,13 +140,13 @@ pub fn judge_choice(rt: &HostRuntime, choice: &Choice<'_>) -> Result<Questions, 
     if let Some(day) = choice.due {
         judge_day(rt, day)?;
     }
-    let questions = Questions::read(rt.alloc(), choice).map_err(|fault| question_failure(
-        rt.alloc(),
-        choice.test,
-        fault,
-    ))?;
-    if let Some(test) = choice.test {
-        warn_of_fields(rt, test)?;
+    match Questions::read(rt.alloc(), choice) {
+        Ok(questions) => {
+            if let Some(test) = choice.test {
+                warn_of_fields(rt, test)?;
+            }
+            Ok(questions)
+        }
+        Err(fault) => Err(question_failure(rt.alloc(), choice.test, fault)),
     }
-    Ok(questions)
 }

@@ -90,13 +90,15 @@ impl<'a> Reporting<'a> {
     pub(crate) fn new(rt: &'a HostRuntime, plan: &Plan, day: Date) -> Result<Reporting<'a>, Failure>
         ensures { IfOk result (λ r. IsReportBy day r) }
     {
-        let report = Report::new(rt.alloc(), plan, day).map_err(|fault| report_failure(rt, fault))?;
-        Ok(Reporting {
-            rt,
-            report,
-            day,
-            volume: None,
-        })
+        match Report::new(rt.alloc(), plan, day) {
+            Ok(report) => Ok(Reporting {
+                rt,
+                report,
+                day,
+                volume: None,
+            }),
+            Err(fault) => Err(report_failure(rt, fault)),
+        }
     }
 }
 

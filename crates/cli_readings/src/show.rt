@@ -57,9 +57,10 @@ pub(crate) fn entry_of<R: Repository<Fault = StoreFault>>(
     ensures told { IfOk result (λ e. R.clean archive.new → (a : Archive) → R.stands archive.old a
         → IsEntryOf a typed.entry.number e) }
 {
-    archive
-        .entry(typed.number)
-        .map_err(|fault| Failure::of_store(alloc, typed.word, fault))
+    match archive.entry(typed.number) {
+        Ok(entry) => Ok(entry),
+        Err(fault) => Err(Failure::of_store(alloc, typed.word, fault)),
+    }
 }
 
 /// Finds that octets are those that were captured as the message of an entry, as far as its seal is known. `BadData` where they
@@ -98,11 +99,13 @@ fn octets_of<R: Repository<Fault = StoreFault>>(
     ensures captured { IfOk result (λ octets. is_unaltered
         (fidelity (known seals.now entry.now.message) (seal octets.items)) ≡ true) }
 {
-    let octets = archive
-        .message(entry.number)
-        .map_err(|fault| Failure::of_store(alloc, typed.word, fault))?;
-    judge_octets(alloc, typed.volume, seals, entry, octets.as_slice())?;
-    Ok(octets)
+    match archive.message(entry.number) {
+        Ok(octets) => {
+            judge_octets(alloc, typed.volume, seals, entry, octets.as_slice())?;
+            Ok(octets)
+        }
+        Err(fault) => Err(Failure::of_store(alloc, typed.word, fault)),
+    }
 }
 
 /// The message of an entry. `BadData` where it is destroyed, and where it is not the one that was captured.

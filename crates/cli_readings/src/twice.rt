@@ -210,9 +210,10 @@ fn entry_of<R: Repository<Fault = StoreFault>>(
     ensures told { IfOk result (λ e. R.clean archive.new → (a : Archive) → R.stands archive.old a
         → IsEntryOf a number e) }
 {
-    archive
-        .entry(number)
-        .map_err(|fault| Failure::of_store(alloc, "the store", fault))
+    match archive.entry(number) {
+        Ok(entry) => Ok(entry),
+        Err(fault) => Err(Failure::of_store(alloc, "the store", fault)),
+    }
 }
 
 /// Adds a record to a list, with what the header of its message says where that is listed.
