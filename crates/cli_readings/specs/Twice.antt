@@ -22,7 +22,7 @@ use Rattle.cli_console.specs.Sinks.{Writes, more_written, nothing_written}
 use Rattle.cli_history.specs.Seals.{known, length_and_sum}
 use Rattle.cli_history.specs.declared.seals.Seals.{Seals}
 use Rattle.cli_texts.specs.Sums.{shown_sum}
-use Rattle.cli_readings.specs.Lists.{HasText, IsListedAs, Lists, PushesRow, end_of, head_of, whole_text}
+use Rattle.cli_readings.specs.Lists.{HasText, IsListedAs, PushesRow, end_of, head_of, whole_text}
 use Rattle.cli_console.specs.Sequences.{AreTexts, between, count_of, counted_joined, first_after, is_none, more_for, not_first, one_text}
 use Rattle.cli_console.specs.Sequences.{texts_joined}
 use Rattle.cli_readings.specs.Shows.{IsEntryOf}
@@ -314,18 +314,6 @@ module _ {K : Type 0} (written : K → List ℕ → Type 0) (IsRow : RowTexts) w
             ∙ ap (λ rs. more_for rs x.count) (sym (append-nil (records_of g.1)));
         listing = listed ∙ kept ∙ same;
       }
-
-  -- and stays so when it is written
-  pub groups_kept : (a : Archive) (x y z : ListText K) (gs : List KeyedGroup) → AddsGroups written IsRow x gs y → Lists written a y [] z
-      → AddsGroups written IsRow x gs z
-  groups_kept a x y z gs adds kept = record {
-    rows = adds.rows;
-    are = adds.are;
-    added = subst (λ t. Writes (HasText written) x z t) (ap (λ t. adds.rows ++ t) kept.are ∙ append-nil adds.rows)
-        (more_written (HasText written) x y z adds.rows kept.rows adds.added kept.added);
-    counted = kept.counted ∙ adds.counted;
-    listing = kept.listing ∙ adds.listing;
-  }
 
   pub no_groups : (x : ListText K) → AddsGroups written IsRow x [] x
   no_groups x = record { rows = []; are = refl; added = nothing_written (HasText written) x; counted = refl; listing = refl }

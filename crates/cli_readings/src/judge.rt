@@ -170,21 +170,6 @@ impl Reader for Counting<'_> {
     ghost takes_more = { λ x y z a es fs one other. more_counted x y z a es fs one other };
 }
 
-/// Counts all records of an archive, and their messages.
-fn count_all<R: Repository<Fault = StoreFault>>(
-    rt: &HostRuntime,
-    archive: &mut R,
-    counting: &mut Counting<'_>,
-) -> Result<(), Failure>
-    ensures reads { OnlyReads R.clean R.stands archive.old archive.new }
-    ensures counted { OnOk result (R.clean archive.new → (a : Archive) → R.stands archive.old a
-        → TakesThese (λ old b es new. Counts old b es new) counting.old a (every_entry a)
-        counting.new) }
-{
-    read_chosen(rt, archive, &Choice::every(), counting)?;
-    Ok(())
-}
-
 /// Adds a line with a count.
 fn put_count(text: &mut Shown, name: &'static str, count: u64) -> Result<(), AllocError>
     ensures { OnOk result (text.new ≡ text.old ++ count_line name.now count) }
@@ -315,7 +300,7 @@ fn contents_to<R: Repository<Fault = StoreFault>, K: Sink + Drop>(
         figures: Figures::none(),
         messages: Messages::none(rt.alloc(), is_noted),
     };
-    count_all(rt, archive, &mut counting)?;
+    read_chosen(rt, archive, &Choice::every(), &mut counting)?;
     let classes = archive.plan().class_count();
     let text = text_of(
         rt.alloc(),

@@ -199,17 +199,6 @@ impl<'a, K: Sink + Drop> ListText<'a, K> {
         Ok(())
     }
 
-    /// Adds the next record to what is to be written.
-    fn add_row(&mut self, entry: &RecordEntry, headers: ListedHeaders<'_>) -> Result<(), Failure>
-        ensures { OnOk result ((a : Archive)
-            → IsHeaderOf a self.old.listing.headers entry.now headers.entry
-            → Lists K.written a self.old (entry.now ∷ []) self.new) }
-    {
-        let is_first = self.count == 0;
-        self.push_row(entry, headers, is_first)?;
-        Ok(())
-    }
-
     /// Writes what is not written yet.
     pub(crate) fn write(&mut self) -> Result<(), Failure>
         ensures same { OnOk result ((a : Archive) → Lists K.written a self.old [] self.new) }
@@ -228,8 +217,7 @@ impl<'a, K: Sink + Drop> ListText<'a, K> {
         if self.text.len() < PIECE {
             return Ok(());
         }
-        self.write()?;
-        Ok(())
+        self.write()
     }
 
     /// Adds a record, and writes the text where it is long.
@@ -238,7 +226,8 @@ impl<'a, K: Sink + Drop> ListText<'a, K> {
             → IsHeaderOf a self.old.listing.headers entry.now headers.entry
             → Lists K.written a self.old (entry.now ∷ []) self.new) }
     {
-        self.add_row(entry, headers)?;
+        let is_first = self.count == 0;
+        self.push_row(entry, headers, is_first)?;
         self.write_long()?;
         Ok(())
     }

@@ -1,9 +1,8 @@
 //! `report`: one page of HTML on what is kept, what is due and what is held.
 
-ghost use Rattle.std.specs.Prelude.{◌≡◌, IfOk, IfSome, OnOk, is_none, not};
+ghost use Rattle.std.specs.Prelude.{◌≡◌, IfOk, IfSome, is_none, not};
 ghost use Rattle.record_archive.specs.Archive.{Archive};
 ghost use Rattle.record_choice.specs.Reads.{OnlyReads};
-ghost use Rattle.cli_console.specs.Finds.{IsAtEnd, IsBounded, TakesThese, found_ahead};
 ghost use Rattle.cli_console.specs.Headers.{AreTextsOf};
 ghost use Rattle.cli_readings.specs.Checks.{is_live_and_due};
 ghost use Rattle.cli_readings.specs.Reports.{IsRecordOf, IsReportBy, ReportsMore, more_reports, none_reports};
@@ -127,24 +126,6 @@ impl Reader for Reporting<'_> {
     ghost takes_more = { λ x y z a es fs one other. more_reports x y z a es fs one other };
 }
 
-/// Adds the records that are found to a report by a day.
-pub(crate) fn report_of<R: Repository<Fault = StoreFault>>(
-    rt: &HostRuntime,
-    archive: &mut R,
-    search: &mut Search<'_, '_>,
-    reporting: &mut Reporting<'_>,
-) -> Result<(), Failure>
-    requires { IsBounded search.old }
-    ensures reads { OnlyReads R.clean R.stands archive.old archive.new }
-    ensures reported { OnOk result (R.clean archive.new → (a : Archive) → R.stands archive.old a
-        → TakesThese (λ old b es new. ReportsMore old b es new) reporting.old a
-        (found_ahead search.old a) reporting.new) }
-    ensures ended { OnOk result (R.clean archive.new → (a : Archive) → R.stands archive.old a
-        → IsAtEnd search.old a search.new) }
-{
-    search.read_found(rt, archive, reporting)
-}
-
 /// Writes the page of a report on the records of a store, or an archive, of this name that meet these conditions.
 pub(crate) fn write_page(
     rt: &HostRuntime,
@@ -183,7 +164,7 @@ pub fn write_report<S: Alter>(
 ) -> Result<(), Failure> {
     let mut search = Search::new(rt, archive, choice, questions)?;
     let mut reporting = Reporting::new(rt, archive.plan(), day)?;
-    report_of(rt, archive, &mut search, &mut reporting)?;
+    search.read_found(rt, archive, &mut reporting)?;
     let titles = Titles::of(rt, archive)?;
     let conditions = conditions_of(rt.alloc(), choice)?;
     write_page(

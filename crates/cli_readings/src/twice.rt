@@ -287,8 +287,8 @@ fn add_records<R: Repository<Fault = StoreFault>, K: Sink + Drop>(
     Ok(())
 }
 
-/// Adds a group to a list.
-fn add_group<R: Repository<Fault = StoreFault>, K: Sink + Drop>(
+/// Adds a group to a list, and writes it.
+fn write_group<R: Repository<Fault = StoreFault>, K: Sink + Drop>(
     archive: &mut R,
     list: &mut ListText<'_, K>,
     keyed: &(SealKey, Group),
@@ -303,22 +303,7 @@ fn add_group<R: Repository<Fault = StoreFault>, K: Sink + Drop>(
     let beside = text_beside(alloc, format, &keyed.0)?;
     list.push(before.as_str())?;
     add_records(archive, list, &keyed.1, beside.as_str())?;
-    list.push(text_after(format))?;
-    Ok(())
-}
-
-/// Adds a group to a list, and writes it.
-fn write_group<R: Repository<Fault = StoreFault>, K: Sink + Drop>(
-    archive: &mut R,
-    list: &mut ListText<'_, K>,
-    keyed: &(SealKey, Group),
-) -> Result<(), Failure>
-    ensures reads { OnlyReads R.clean R.stands archive.old archive.new }
-    ensures added { OnOk result (R.clean archive.new → (a : Archive) → R.stands archive.old a
-        → AddsGroups K.written (IsBeside a list.old.listing) list.old (keyed.now ∷ []) list.new) }
-{
-    add_group(archive, list, keyed)?;
-    list.write()?;
+    list.put(text_after(format))?;
     Ok(())
 }
 

@@ -9,7 +9,7 @@ ghost use Rattle.cli_readings.specs.Reports.{IsReportBy};
 ghost use Rattle.cli_readings.specs.VolumeReports.{ReportsVolume, reported_of};
 
 use crate::conditions::conditions_over;
-use crate::report::{Reporting, report_of, write_page};
+use crate::report::{Reporting, write_page};
 use crate::volume_reader::VolumeReader;
 use class_plan::{Date, Plan};
 use cli_choice::Questions;
@@ -54,7 +54,7 @@ impl<'a> VolumeReport<'a> {
     {
         let mut search = Search::new(rt, archive, choice, questions)?;
         self.reporting.volume = Some(volume);
-        report_of(rt, archive, &mut search, &mut self.reporting)?;
+        search.read_found(rt, archive, &mut self.reporting)?;
         Ok(search)
     }
 

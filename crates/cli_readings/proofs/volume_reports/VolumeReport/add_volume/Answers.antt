@@ -8,14 +8,14 @@ use Rattle.cli_readings.proofs.volume_reports.VolumeReport.add_volume.Goals as g
 pub returns-clause-added : goal.returns-clause-added
 returns-clause-added g c = λ clean (a : Archive) s.
     let is = g.met.R.Repository.is_archive c.args.archive.now a s in
-    let took = c.in_ok-report_of.ensures.reported clean a s in (
+    let took = c.in_ok-read_found.ensures.taken clean a s in (
       took.0,
       took.1 ∙ c.in_ok-search.ensures.found a is,
-      volume_reported c.args.volume c.args.self.now c.report_of.new.reporting a took.0 took.2,
+      volume_reported c.args.volume c.args.self.now c.read_found.new.reader a took.0 took.2,
     )
 
 pub returns-clause-ended : goal.returns-clause-ended
 returns-clause-ended g c = λ clean (a : Archive) s.
     let is = g.met.R.Repository.is_archive c.args.archive.now a s in
-    search_ended c.args.choice.now (found_in c.args.choice.now c.args.questions.now a) c.in_ok-search.search c.report_of.new.search a
-    c.in_ok-search.ensures.typed c.in_ok-search.ensures.none (c.in_ok-search.ensures.found a is) (c.in_ok-report_of.ensures.ended clean a s)
+    search_ended c.args.choice.now (found_in c.args.choice.now c.args.questions.now a) c.in_ok-search.search c.read_found.new.self a
+    c.in_ok-search.ensures.typed c.in_ok-search.ensures.none (c.in_ok-search.ensures.found a is) (c.in_ok-read_found.ensures.ended clean a s)
