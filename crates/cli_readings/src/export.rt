@@ -1,7 +1,6 @@
 //! `export`: records as files, with lists of them.
 
 ghost use Rattle.std.specs.Prelude.{◌≡◌, [], IfOk, MatchOption};
-ghost use Rattle.record_archive.specs.Archive.{Archive};
 ghost use Rattle.record_choice.specs.Reads.{OnlyReads};
 ghost use Rattle.cli_console.specs.Failures.{IsToldAs};
 ghost use Rattle.cli_console.specs.Finds.{found_in};
@@ -9,6 +8,7 @@ ghost use Rattle.cli_console.specs.declared.failure.Status.TheVariants.{BadData}
 ghost use Rattle.cli_history.specs.Walks.{Glances};
 ghost use Rattle.cli_readings.specs.Ends.{IsEnded};
 ghost use Rattle.cli_readings.specs.Exports.{ExportsFound, exported_text};
+ghost use Rattle.cli_readings.specs.Reads.{IsReadOf};
 
 use crate::conditions::conditions_of;
 use crate::destination::{Destination, Folder, INDEX, Noted};
@@ -39,13 +39,12 @@ fn export_records<'s, 'a, R: Repository<Fault = StoreFault>, D: Destination + Dr
     destination: D,
 ) -> Result<(Search<'s, 'a>, Option<Outgoing<D>>), Failure>
     ensures reads { OnlyReads R.clean R.stands archive.old archive.new }
-    ensures exported { IfOk result (λ ended. R.clean archive.new → (a : Archive)
-        → R.stands archive.old a
-        → MatchOption ended.1 (found_in choice.now questions.now a ≡ [])
+    ensures exported { IfOk result (λ ended. IsReadOf R.clean R.stands archive.old archive.new
+        (λ a. MatchOption ended.1 (found_in choice.now questions.now a ≡ [])
         (λ out. ExportsFound D.made seals destination a (found_in choice.now questions.now a)
-        out)) }
-    ensures ended { IfOk result (λ ended. R.clean archive.new → (a : Archive)
-        → R.stands archive.old a → IsEnded choice.now questions.now a ended.0) }
+        out))) }
+    ensures ended { IfOk result (λ ended. IsReadOf R.clean R.stands archive.old archive.new
+        (λ a. IsEnded choice.now questions.now a ended.0)) }
 {
     let mut search = Search::new(rt, archive, choice, questions)?;
     let Some(first) = search.next_found(rt, archive)? else {

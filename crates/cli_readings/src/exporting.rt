@@ -2,9 +2,9 @@
 
 ghost use Rattle.std.specs.Prelude.{◌≡◌, false, None, Some, IfOk, OnOk, option_map, string_bytes};
 ghost use Rattle.std.specs.Option.{option_copied};
-ghost use Rattle.record_archive.specs.Archive.{Archive};
 ghost use Rattle.record_choice.specs.Reads.{OnlyReads};
 ghost use Rattle.cli_texts.specs.Rows.{last_fields};
+ghost use Rattle.cli_readings.specs.Reads.{IsReadOf};
 ghost use Rattle.cli_readings.specs.Shows.{is_unaltered};
 ghost use Rattle.cli_readings.specs.Exports.{are_captured, sum_line};
 ghost use Rattle.cli_readings.specs.Exporting.{Exports, HandsOver, HandsOverSome, IsExported, IsListed, IsListedAs, IsMet, IsNew, IsOf, TurnsTo, file_parts, is_met, letter_of, met_fields, more_exported, no_count, none_exported, noted_for, written_fields, written_of};
@@ -280,10 +280,10 @@ impl<'a, D: Destination + Drop> Exporting<'a, D> {
         entry: &RecordEntry,
     ) -> Result<(), Failure>
         ensures reads { OnlyReads R.clean R.stands archive.old archive.new }
-        ensures exported { OnOk result (R.clean archive.new → (a : Archive)
-            → R.stands archive.old a → HandsOverSome D.made self.old.out
+        ensures exported { OnOk result (IsReadOf R.clean R.stands archive.old archive.new
+            (λ a. HandsOverSome D.made self.old.out
             (λ parts. IsNew self.old.volume a self.old.seals entry.now self.new.last parts)
-            self.new.out) }
+            self.new.out)) }
         ensures seals { self.new.seals ≡ self.old.seals }
         ensures volume { self.new.volume ≡ self.old.volume }
     {
@@ -308,10 +308,10 @@ impl<'a, D: Destination + Drop> Exporting<'a, D> {
         entry: &RecordEntry,
     ) -> Result<(), Failure>
         ensures reads { OnlyReads R.clean R.stands archive.old archive.new }
-        ensures exported { OnOk result (R.clean archive.new → (a : Archive)
-            → R.stands archive.old a → HandsOverSome D.made self.old.out
+        ensures exported { OnOk result (IsReadOf R.clean R.stands archive.old archive.new
+            (λ a. HandsOverSome D.made self.old.out
             (λ parts. IsExported self.old.volume false (is_met self.old.last entry.now.message) a
-            self.old.seals entry.now self.old.last self.new.last parts) self.new.out) }
+            self.old.seals entry.now self.old.last self.new.last parts) self.new.out)) }
         ensures seals { self.new.seals ≡ self.old.seals }
         ensures volume { self.new.volume ≡ self.old.volume }
     {

@@ -1,11 +1,11 @@
 //! `check`: what an archive holds.
 
 ghost use Rattle.std.specs.Prelude.{◌≡◌, ◌∷◌, ◌++◌, [], ℕ, None, IfOk, OnOk, length, refl};
-ghost use Rattle.record_archive.specs.Archive.{Archive};
 ghost use Rattle.record_choice.specs.Reads.{OnlyReads};
 ghost use Rattle.cli_console.specs.Finds.{TakesThese};
 ghost use Rattle.cli_readings.specs.Checks.{AreNone, CountsMessages, CountsUnless, Counts, NotesSeal, TellsContents, contents_text, count_line, every_entry, is_kept, is_live_and_due, is_passed, more_counted, no_figures, none_counted, together, totals_of, totals_text, volumes_text, with_records};
 ghost use Rattle.cli_console.specs.Sinks.{Writes};
+ghost use Rattle.cli_readings.specs.Reads.{IsReadOf};
 
 use class_plan::Date;
 use cli_console::{
@@ -126,9 +126,8 @@ impl Messages {
         entry: &RecordEntry,
     ) -> Result<(), Failure>
         ensures reads { OnlyReads R.clean R.stands archive.old archive.new }
-        ensures counted { OnOk result (R.clean archive.new → (a : Archive)
-            → R.stands archive.old a → CountsUnless (is_passed self.old entry.now) a entry.now
-            self.old self.new) }
+        ensures counted { OnOk result (IsReadOf R.clean R.stands archive.old archive.new
+            (λ a. CountsUnless (is_passed self.old entry.now) a entry.now self.old self.new)) }
     {
         if self.is_passed(entry) {
             return Ok(());
@@ -288,10 +287,9 @@ fn contents_to<R: Repository<Fault = StoreFault>, K: Sink + Drop>(
     sink: K,
 ) -> Result<(Contents, K), Failure>
     ensures reads { OnlyReads R.clean R.stands archive.old archive.new }
-    ensures told { IfOk result (λ ended. R.clean archive.new → (a : Archive)
-        → R.stands archive.old a
-        → TakesThese (λ before b es after. TellsContents K.written day is_noted ended.0 before b es
-        after) sink a (every_entry a) ended.1) }
+    ensures told { IfOk result (λ ended. IsReadOf R.clean R.stands archive.old archive.new
+        (λ a. TakesThese (λ before b es after. TellsContents K.written day is_noted ended.0 before
+        b es after) sink a (every_entry a) ended.1)) }
 {
     let mut sink = sink;
     let mut counting = Counting {

@@ -10,6 +10,7 @@ ghost use Rattle.cli_readings.specs.Ends.{IsEnded};
 ghost use Rattle.cli_readings.specs.Lists.{HasText, IsHeaderOf, IsRowOf, IsTextOf, Lists, PushesRow, WritesList, end_of, head_of, more_listed, none_listed};
 ghost use Rattle.cli_console.specs.Sequences.{between};
 ghost use Rattle.cli_console.specs.Sinks.{Writes};
+ghost use Rattle.cli_readings.specs.Reads.{IsReadOf};
 
 use cli_choice::Questions;
 use cli_console::{Failure, Reader, Search, Sink, StandardOutput, message_of, text_between};
@@ -49,8 +50,8 @@ pub(crate) fn headers_of_record<R: Repository<Fault = StoreFault>>(
 ) -> Result<Option<Headers>, Failure>
     ensures reads { OnlyReads R.clean R.stands archive.old archive.new }
     ensures none { IfOk result (λ h. is_none h ≡ entry.now.destroyed) }
-    ensures texts { IfOk result (λ o. R.clean archive.new → (a : Archive)
-        → R.stands archive.old a → IfSome o (λ h. AreTextsOf a entry.now.number h)) }
+    ensures texts { IfOk result (λ o. IsReadOf R.clean R.stands archive.old archive.new
+        (λ a. IfSome o (λ h. AreTextsOf a entry.now.number h))) }
 {
     if entry.destroyed {
         return Ok(None);
@@ -240,8 +241,8 @@ impl<'a, K: Sink + Drop> ListText<'a, K> {
     ) -> Result<(), Failure>
         requires { self.old.listing.headers ≡ true }
         ensures reads { OnlyReads R.clean R.stands archive.old archive.new }
-        ensures added { OnOk result (R.clean archive.new → (a : Archive)
-            → R.stands archive.old a → Lists K.written a self.old (entry.now ∷ []) self.new) }
+        ensures added { OnOk result (IsReadOf R.clean R.stands archive.old archive.new
+            (λ a. Lists K.written a self.old (entry.now ∷ []) self.new)) }
     {
         match headers_of_record(self.rt, archive, entry)? {
             Some(headers) => self.add(entry, ListedHeaders::Texts(&headers)),
@@ -311,11 +312,11 @@ pub(crate) fn add_found<R: Repository<Fault = StoreFault>, K: Sink + Drop>(
 ) -> Result<(), Failure>
     requires { IsBounded search.old }
     ensures reads { OnlyReads R.clean R.stands archive.old archive.new }
-    ensures listed { OnOk result (R.clean archive.new → (a : Archive) → R.stands archive.old a
-        → TakesThese (λ old b es new. Lists K.written b old es new) list.old a
-        (found_ahead search.old a) list.new) }
-    ensures ended { OnOk result (R.clean archive.new → (a : Archive) → R.stands archive.old a
-        → IsAtEnd search.old a search.new) }
+    ensures listed { OnOk result (IsReadOf R.clean R.stands archive.old archive.new
+        (λ a. TakesThese (λ old b es new. Lists K.written b old es new) list.old a
+        (found_ahead search.old a) list.new)) }
+    ensures ended { OnOk result (IsReadOf R.clean R.stands archive.old archive.new
+        (λ a. IsAtEnd search.old a search.new)) }
 {
     if list.listing.headers {
         search.read_with_headers(rt, archive, list)
@@ -336,12 +337,11 @@ fn list_to<'s, 'a, R: Repository<Fault = StoreFault>, K: Sink + Drop>(
     sink: K,
 ) -> Result<(Search<'s, 'a>, K), Failure>
     ensures reads { OnlyReads R.clean R.stands archive.old archive.new }
-    ensures listed { IfOk result (λ ended. R.clean archive.new → (a : Archive)
-        → R.stands archive.old a
-        → TakesThese (λ before b es after. WritesList K.written b listing before es after) sink a
-        (found_in choice.now questions.now a) ended.1) }
-    ensures ended { IfOk result (λ ended. R.clean archive.new → (a : Archive)
-        → R.stands archive.old a → IsEnded choice.now questions.now a ended.0) }
+    ensures listed { IfOk result (λ ended. IsReadOf R.clean R.stands archive.old archive.new
+        (λ a. TakesThese (λ before b es after. WritesList K.written b listing before es after)
+        sink a (found_in choice.now questions.now a) ended.1)) }
+    ensures ended { IfOk result (λ ended. IsReadOf R.clean R.stands archive.old archive.new
+        (λ a. IsEnded choice.now questions.now a ended.0)) }
 {
     let mut search = Search::new(rt, archive, choice, questions)?;
     let mut list = ListText::new(rt, listing, sink);

@@ -1,10 +1,10 @@
 //! `report`: one page of HTML on what is kept, what is due and what is held.
 
 ghost use Rattle.std.specs.Prelude.{◌≡◌, IfOk, IfSome, is_none, not};
-ghost use Rattle.record_archive.specs.Archive.{Archive};
 ghost use Rattle.record_choice.specs.Reads.{OnlyReads};
 ghost use Rattle.cli_console.specs.Headers.{AreTextsOf};
 ghost use Rattle.cli_readings.specs.Checks.{is_live_and_due};
+ghost use Rattle.cli_readings.specs.Reads.{IsReadOf};
 ghost use Rattle.cli_readings.specs.Reports.{IsRecordOf, IsReportBy, ReportsMore, more_reports, none_reports};
 
 use crate::conditions::conditions_of;
@@ -55,8 +55,8 @@ fn headers_of_due<R: Repository<Fault = StoreFault>>(
 ) -> Result<Option<Headers>, Failure>
     ensures reads { OnlyReads R.clean R.stands archive.old archive.new }
     ensures asked { IfOk result (λ h. is_none h ≡ not (is_live_and_due day entry.now)) }
-    ensures texts { IfOk result (λ o. R.clean archive.new → (a : Archive)
-        → R.stands archive.old a → IfSome o (λ h. AreTextsOf a entry.now.number h)) }
+    ensures texts { IfOk result (λ o. IsReadOf R.clean R.stands archive.old archive.new
+        (λ a. IfSome o (λ h. AreTextsOf a entry.now.number h))) }
 {
     if !is_by(entry.due, day) {
         return Ok(None);

@@ -1,10 +1,11 @@
 //! `show`: the message of a record.
 
 ghost use Rattle.std.specs.Prelude.{◌≡◌, IfOk, Ok, OnOk, Some, true};
-ghost use Rattle.record_archive.specs.Archive.{Archive, message};
+ghost use Rattle.record_archive.specs.Archive.{message};
 ghost use Rattle.record_choice.specs.Reads.{OnlyReads};
 ghost use Rattle.record_history.specs.Replay.{seal};
 ghost use Rattle.cli_history.specs.Seals.{fidelity, known};
+ghost use Rattle.cli_readings.specs.Reads.{IsReadOf};
 ghost use Rattle.cli_readings.specs.Shows.{IsEntryOf, is_unaltered};
 
 use cli_console::{Failure, Status, write_data, write_text};
@@ -54,8 +55,8 @@ pub(crate) fn entry_of<R: Repository<Fault = StoreFault>>(
     typed: TypedNumber<'_>,
 ) -> Result<RecordEntry, Failure>
     ensures reads { OnlyReads R.clean R.stands archive.old archive.new }
-    ensures told { IfOk result (λ e. R.clean archive.new → (a : Archive) → R.stands archive.old a
-        → IsEntryOf a typed.entry.number e) }
+    ensures told { IfOk result (λ e. IsReadOf R.clean R.stands archive.old archive.new
+        (λ a. IsEntryOf a typed.entry.number e)) }
 {
     match archive.entry(typed.number) {
         Ok(entry) => Ok(entry),
@@ -94,8 +95,8 @@ fn octets_of<R: Repository<Fault = StoreFault>>(
     seals: &Seals,
 ) -> Result<Vec<u8>, Failure>
     ensures reads { OnlyReads R.clean R.stands archive.old archive.new }
-    ensures told { IfOk result (λ octets. R.clean archive.new → (a : Archive)
-        → R.stands archive.old a → message a entry.now.number ≡ Ok (Some octets.items)) }
+    ensures told { IfOk result (λ octets. IsReadOf R.clean R.stands archive.old archive.new
+        (λ a. message a entry.now.number ≡ Ok (Some octets.items))) }
     ensures captured { IfOk result (λ octets. is_unaltered
         (fidelity (known seals.now entry.now.message) (seal octets.items)) ≡ true) }
 {

@@ -1,11 +1,11 @@
 //! `list --twice`: the records whose messages were captured twice.
 
 ghost use Rattle.std.specs.Prelude.{◌≡◌, ◌∷◌, [], false, None, true, IfOk, OnOk, string_bytes};
-ghost use Rattle.record_archive.specs.Archive.{Archive};
 ghost use Rattle.record_choice.specs.Reads.{OnlyReads};
 ghost use Rattle.cli_history.specs.Seals.{known};
 ghost use Rattle.cli_readings.specs.Groups.{key_of, records_of};
 ghost use Rattle.cli_readings.specs.Lists.{PushesRow};
+ghost use Rattle.cli_readings.specs.Reads.{IsReadOf};
 ghost use Rattle.cli_readings.specs.Shows.{IsEntryOf};
 ghost use Rattle.cli_readings.specs.Twice.{
   AddsBeside,
@@ -44,8 +44,8 @@ fn own_seal<R: Repository<Fault = StoreFault>>(
     entry: &RecordEntry,
 ) -> Result<SealKey, Failure>
     ensures reads { OnlyReads R.clean R.stands archive.old archive.new }
-    ensures told { IfOk result (λ seal. R.clean archive.new → (a : Archive)
-        → R.stands archive.old a → IsKeyOf None a entry.now (key_of seal)) }
+    ensures told { IfOk result (λ seal. IsReadOf R.clean R.stands archive.old archive.new
+        (λ a. IsKeyOf None a entry.now (key_of seal))) }
 {
     let message = message_of(rt, archive, entry)?;
     let sum = sum_of(rt.alloc(), message.as_slice())?;
@@ -60,9 +60,8 @@ fn seal_of_record<R: Repository<Fault = StoreFault>>(
     entry: &RecordEntry,
 ) -> Result<SealKey, Failure>
     ensures reads { OnlyReads R.clean R.stands archive.old archive.new }
-    ensures told { IfOk result (λ seal. R.clean archive.new → (a : Archive)
-        → R.stands archive.old a
-        → IsKeyOf (known seals.now entry.now.message) a entry.now (key_of seal)) }
+    ensures told { IfOk result (λ seal. IsReadOf R.clean R.stands archive.old archive.new
+        (λ a. IsKeyOf (known seals.now entry.now.message) a entry.now (key_of seal))) }
 {
     let Some((octets, sum)) = seals.length_and_sum(entry.message) else {
         return own_seal(rt, archive, entry);
@@ -113,8 +112,8 @@ pub(crate) fn gather<R: Repository<Fault = StoreFault>>(
     groups: Groups,
 ) -> Result<Groups, Failure>
     ensures reads { OnlyReads R.clean R.stands archive.old archive.new }
-    ensures gathered { IfOk result (λ after. R.clean archive.new → (a : Archive)
-        → R.stands archive.old a → GathersAll volume a seals groups after) }
+    ensures gathered { IfOk result (λ after. IsReadOf R.clean R.stands archive.old archive.new
+        (λ a. GathersAll volume a seals groups after)) }
 {
     let mut grouping = Grouping {
         rt,
@@ -135,8 +134,8 @@ fn groups_of<R: Repository<Fault = StoreFault>>(
     seals: Seals,
 ) -> Result<Vec<(SealKey, Group)>, Failure>
     ensures reads { OnlyReads R.clean R.stands archive.old archive.new }
-    ensures twice { IfOk result (λ groups. R.clean archive.new → (a : Archive)
-        → R.stands archive.old a → AreCapturedTwice a seals groups.items) }
+    ensures twice { IfOk result (λ groups. IsReadOf R.clean R.stands archive.old archive.new
+        (λ a. AreCapturedTwice a seals groups.items)) }
 {
     let groups = gather(rt, archive, 1, seals, Groups::new(rt.alloc()))?;
     Ok(groups.into_twice()?)
@@ -207,8 +206,8 @@ fn entry_of<R: Repository<Fault = StoreFault>>(
     number: u32,
 ) -> Result<RecordEntry, Failure>
     ensures reads { OnlyReads R.clean R.stands archive.old archive.new }
-    ensures told { IfOk result (λ e. R.clean archive.new → (a : Archive) → R.stands archive.old a
-        → IsEntryOf a number e) }
+    ensures told { IfOk result (λ e. IsReadOf R.clean R.stands archive.old archive.new
+        (λ a. IsEntryOf a number e)) }
 {
     match archive.entry(number) {
         Ok(entry) => Ok(entry),
@@ -224,8 +223,8 @@ fn push_entry<R: Repository<Fault = StoreFault>, K: Sink + Drop>(
     is_first: bool,
 ) -> Result<(), Failure>
     ensures reads { OnlyReads R.clean R.stands archive.old archive.new }
-    ensures pushed { OnOk result (R.clean archive.new → (a : Archive) → R.stands archive.old a
-        → PushesRow K.written a is_first list.old entry.now list.new) }
+    ensures pushed { OnOk result (IsReadOf R.clean R.stands archive.old archive.new
+        (λ a. PushesRow K.written a is_first list.old entry.now list.new)) }
 {
     if !list.listing.headers {
         return list.push_row(entry, ListedHeaders::Unasked, is_first);
@@ -245,8 +244,8 @@ pub(crate) fn add_record<R: Repository<Fault = StoreFault>, K: Sink + Drop>(
     is_first: bool,
 ) -> Result<(), Failure>
     ensures reads { OnlyReads R.clean R.stands archive.old archive.new }
-    ensures added { OnOk result (R.clean archive.new → (a : Archive) → R.stands archive.old a
-        → AddsBeside K.written beside.now is_first list.old a (sealed ∷ []) list.new) }
+    ensures added { OnOk result (IsReadOf R.clean R.stands archive.old archive.new
+        (λ a. AddsBeside K.written beside.now is_first list.old a (sealed ∷ []) list.new)) }
 {
     let entry = entry_of(list.rt.alloc(), archive, sealed.number)?;
     list.push(beside)?;
@@ -262,8 +261,8 @@ fn add_others<R: Repository<Fault = StoreFault>, K: Sink + Drop>(
     beside: &str,
 ) -> Result<(), Failure>
     ensures reads { OnlyReads R.clean R.stands archive.old archive.new }
-    ensures added { OnOk result (R.clean archive.new → (a : Archive) → R.stands archive.old a
-        → AddsBeside K.written beside.now false list.old a others.now list.new) }
+    ensures added { OnOk result (IsReadOf R.clean R.stands archive.old archive.new
+        (λ a. AddsBeside K.written beside.now false list.old a others.now list.new)) }
 {
     for other in others {
         add_record(archive, list, *other, beside, false)?;
@@ -279,8 +278,8 @@ fn add_records<R: Repository<Fault = StoreFault>, K: Sink + Drop>(
     beside: &str,
 ) -> Result<(), Failure>
     ensures reads { OnlyReads R.clean R.stands archive.old archive.new }
-    ensures added { OnOk result (R.clean archive.new → (a : Archive) → R.stands archive.old a
-        → AddsBeside K.written beside.now true list.old a (records_of group.now) list.new) }
+    ensures added { OnOk result (IsReadOf R.clean R.stands archive.old archive.new
+        (λ a. AddsBeside K.written beside.now true list.old a (records_of group.now) list.new)) }
 {
     add_record(archive, list, group.first(), beside, true)?;
     add_others(archive, list, group.others(), beside)?;
@@ -294,8 +293,9 @@ fn write_group<R: Repository<Fault = StoreFault>, K: Sink + Drop>(
     keyed: &(SealKey, Group),
 ) -> Result<(), Failure>
     ensures reads { OnlyReads R.clean R.stands archive.old archive.new }
-    ensures added { OnOk result (R.clean archive.new → (a : Archive) → R.stands archive.old a
-        → AddsGroups K.written (IsBeside a list.old.listing) list.old (keyed.now ∷ []) list.new) }
+    ensures added { OnOk result (IsReadOf R.clean R.stands archive.old archive.new
+        (λ a. AddsGroups K.written (IsBeside a list.old.listing) list.old (keyed.now ∷ [])
+        list.new)) }
 {
     let alloc = list.rt.alloc();
     let format = list.listing.format;
@@ -314,8 +314,8 @@ fn write_groups<R: Repository<Fault = StoreFault>, K: Sink + Drop>(
     groups: &[(SealKey, Group)],
 ) -> Result<(), Failure>
     ensures reads { OnlyReads R.clean R.stands archive.old archive.new }
-    ensures added { OnOk result (R.clean archive.new → (a : Archive) → R.stands archive.old a
-        → AddsGroups K.written (IsBeside a list.old.listing) list.old groups.now list.new) }
+    ensures added { OnOk result (IsReadOf R.clean R.stands archive.old archive.new
+        (λ a. AddsGroups K.written (IsBeside a list.old.listing) list.old groups.now list.new)) }
 {
     for keyed in groups {
         write_group(archive, list, keyed)?;
@@ -349,8 +349,8 @@ fn twice_to<R: Repository<Fault = StoreFault>, K: Sink + Drop>(
     sink: K,
 ) -> Result<K, Failure>
     ensures reads { OnlyReads R.clean R.stands archive.old archive.new }
-    ensures listed { IfOk result (λ after. R.clean archive.new → (a : Archive)
-        → R.stands archive.old a → WritesTwice K.written listing seals sink a after) }
+    ensures listed { IfOk result (λ after. IsReadOf R.clean R.stands archive.old archive.new
+        (λ a. WritesTwice K.written listing seals sink a after)) }
 {
     let groups = groups_of(rt, archive, seals)?;
     let mut list = ListText::new(rt, listing, sink);

@@ -1,11 +1,11 @@
 //! `export` over an archive of volumes: the records of one volume after another, with one manifest, one list of sums and one index.
 
 ghost use Rattle.std.specs.Prelude.{◌≡◌, [], IfOk, OnOk, false, true};
-ghost use Rattle.record_archive.specs.Archive.{Archive};
 ghost use Rattle.record_choice.specs.Reads.{OnlyReads};
 ghost use Rattle.cli_console.specs.Finds.{TakesThese, found_in};
 ghost use Rattle.cli_history.specs.Walks.{Glances};
 ghost use Rattle.cli_readings.specs.Ends.{IsEnded};
+ghost use Rattle.cli_readings.specs.Reads.{IsReadOf};
 ghost use Rattle.cli_readings.specs.VolumeExports.{Begins, ExportsIn, ExportsVolume, HasAsMuch, HasExported, IsBegunBy, IsNothing, out_of, share_of};
 
 use crate::conditions::conditions_over;
@@ -69,13 +69,13 @@ impl<'a, D: Destination + Drop> ExportOfVolumes<'a, D> {
         seals: Seals,
     ) -> Result<Search<'s, 'c>, Failure>
         ensures reads { OnlyReads R.clean R.stands archive.old archive.new }
-        ensures added { OnOk result (R.clean archive.new → (a : Archive) → R.stands archive.old a
-            → TakesThese (λ old b es new. ExportsVolume D.made (share_of volume b seals es) old new)
-            self.old a (found_in choice.now questions.now a) self.new) }
-        ensures begun { OnOk result (R.clean archive.new → (a : Archive) → R.stands archive.old a
-            → IsBegunBy (found_in choice.now questions.now a) self.old self.new) }
-        ensures ended { IfOk result (λ search. R.clean archive.new → (a : Archive)
-            → R.stands archive.old a → IsEnded choice.now questions.now a search) }
+        ensures added { OnOk result (IsReadOf R.clean R.stands archive.old archive.new
+            (λ a. TakesThese (λ old b es new. ExportsVolume D.made (share_of volume b seals es) old
+            new) self.old a (found_in choice.now questions.now a) self.new)) }
+        ensures begun { OnOk result (IsReadOf R.clean R.stands archive.old archive.new
+            (λ a. IsBegunBy (found_in choice.now questions.now a) self.old self.new)) }
+        ensures ended { IfOk result (λ search. IsReadOf R.clean R.stands archive.old archive.new
+            (λ a. IsEnded choice.now questions.now a search)) }
     {
         let mut search = Search::new(rt, archive, choice, questions)?;
         let Some(first) = search.next_found(rt, archive)? else {

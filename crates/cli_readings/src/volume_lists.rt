@@ -1,10 +1,10 @@
 //! `list` over an archive of volumes: the records of one volume after another.
 
 ghost use Rattle.std.specs.Prelude.{◌≡◌, IfOk, OnOk};
-ghost use Rattle.record_archive.specs.Archive.{Archive};
 ghost use Rattle.record_choice.specs.Reads.{OnlyReads};
 ghost use Rattle.cli_console.specs.Finds.{TakesThese, found_in};
 ghost use Rattle.cli_readings.specs.Ends.{IsEnded};
+ghost use Rattle.cli_readings.specs.Reads.{IsReadOf};
 ghost use Rattle.cli_readings.specs.VolumeLists.{AddsVolume, Begins, Ends, IsNew, head_unless};
 
 use crate::list::{ListText, add_found, text_before};
@@ -63,11 +63,11 @@ impl<'a, K: Sink + Drop> VolumeList<'a, K> {
         questions: &'s Questions,
     ) -> Result<Search<'s, 'c>, Failure>
         ensures reads { OnlyReads R.clean R.stands archive.old archive.new }
-        ensures added { OnOk result (R.clean archive.new → (a : Archive) → R.stands archive.old a
-            → TakesThese (λ old b es new. AddsVolume K.written b volume old es new) self.old a
-            (found_in choice.now questions.now a) self.new) }
-        ensures ended { IfOk result (λ search. R.clean archive.new → (a : Archive)
-            → R.stands archive.old a → IsEnded choice.now questions.now a search) }
+        ensures added { OnOk result (IsReadOf R.clean R.stands archive.old archive.new
+            (λ a. TakesThese (λ old b es new. AddsVolume K.written b volume old es new) self.old a
+            (found_in choice.now questions.now a) self.new)) }
+        ensures ended { IfOk result (λ search. IsReadOf R.clean R.stands archive.old archive.new
+            (λ a. IsEnded choice.now questions.now a search)) }
     {
         let mut search = Search::new(rt, archive, choice, questions)?;
         self.list.listing.volume = Some(volume);

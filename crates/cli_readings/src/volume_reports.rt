@@ -1,10 +1,10 @@
 //! `report` over an archive of volumes: one page on the records of all of them.
 
 ghost use Rattle.std.specs.Prelude.{IfOk, OnOk};
-ghost use Rattle.record_archive.specs.Archive.{Archive};
 ghost use Rattle.record_choice.specs.Reads.{OnlyReads};
 ghost use Rattle.cli_console.specs.Finds.{TakesThese, found_in};
 ghost use Rattle.cli_readings.specs.Ends.{IsEnded};
+ghost use Rattle.cli_readings.specs.Reads.{IsReadOf};
 ghost use Rattle.cli_readings.specs.Reports.{IsReportBy};
 ghost use Rattle.cli_readings.specs.VolumeReports.{ReportsVolume, reported_of};
 
@@ -46,11 +46,11 @@ impl<'a> VolumeReport<'a> {
         questions: &'s Questions,
     ) -> Result<Search<'s, 'c>, Failure>
         ensures reads { OnlyReads R.clean R.stands archive.old archive.new }
-        ensures added { OnOk result (R.clean archive.new → (a : Archive) → R.stands archive.old a
-            → TakesThese (λ old b es new. ReportsVolume (reported_of volume b.plan es) old new)
-            self.old a (found_in choice.now questions.now a) self.new) }
-        ensures ended { IfOk result (λ search. R.clean archive.new → (a : Archive)
-            → R.stands archive.old a → IsEnded choice.now questions.now a search) }
+        ensures added { OnOk result (IsReadOf R.clean R.stands archive.old archive.new
+            (λ a. TakesThese (λ old b es new. ReportsVolume (reported_of volume b.plan es) old new)
+            self.old a (found_in choice.now questions.now a) self.new)) }
+        ensures ended { IfOk result (λ search. IsReadOf R.clean R.stands archive.old archive.new
+            (λ a. IsEnded choice.now questions.now a search)) }
     {
         let mut search = Search::new(rt, archive, choice, questions)?;
         self.reporting.volume = Some(volume);

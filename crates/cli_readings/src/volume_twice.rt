@@ -8,6 +8,7 @@ ghost use Rattle.command_lines.specs.declared.archives.Listing.{Listing as Asked
 ghost use Rattle.record_archive.specs.Archive.{Archive};
 ghost use Rattle.record_choice.specs.Reads.{OnlyReads};
 ghost use Rattle.cli_readings.specs.Groups.{KeyedGroup, records_of};
+ghost use Rattle.cli_readings.specs.Reads.{IsReadOf};
 ghost use Rattle.cli_readings.specs.Twice.{AddsGroups, IsBeside};
 ghost use Rattle.cli_readings.specs.VolumeLists.{in_volume};
 ghost use Rattle.cli_readings.specs.VolumeTwice.{
@@ -120,8 +121,8 @@ fn row_of_record<R: Repository<Fault = StoreFault>>(
     is_first: bool,
 ) -> Result<Vec<u8>, Failure>
     ensures reads { OnlyReads R.clean R.stands archive.old archive.new }
-    ensures row { IfOk result (λ row. R.clean archive.new → (a : Archive) → R.stands archive.old a
-        → IsBeside a listing beside.now is_first sealed row.items) }
+    ensures row { IfOk result (λ row. IsReadOf R.clean R.stands archive.old archive.new
+        (λ a. IsBeside a listing beside.now is_first sealed row.items)) }
 {
     let octets = Vec::new(rt.alloc());
     let mut list = ListText::new(rt, listing, KeptOctets { octets });
@@ -196,8 +197,8 @@ impl GroupRows {
         sealed: Sealed,
     ) -> Result<(), Failure>
         ensures reads { OnlyReads R.clean R.stands archive.old archive.new }
-        ensures added { OnOk result (R.clean archive.new → (a : Archive) → R.stands archive.old a
-            → AddsRow a listing sealed self.old self.new) }
+        ensures added { OnOk result (IsReadOf R.clean R.stands archive.old archive.new
+            (λ a. AddsRow a listing sealed self.old self.new)) }
     {
         let beside = text_beside(rt.alloc(), listing.format, &self.keyed.0)?;
         let is_first = self.rows.is_empty();
