@@ -68,18 +68,6 @@ pub(crate) fn nothing_exported(alloc: Global) -> Failure
     )
 }
 
-/// The end of a search that has found no record: `BadData`, and nothing is exported.
-fn end_of_none<S: Alter>(
-    rt: &HostRuntime,
-    archive: &mut Store<S>,
-    search: Search<'_, '_>,
-) -> Failure {
-    match search.end(rt, archive) {
-        Ok(()) => nothing_exported(rt.alloc()),
-        Err(failure) => failure,
-    }
-}
-
 /// Writes events to a new file of a folder, and answers its SHA-256.
 fn write_events<S: Alter>(
     rt: &HostRuntime,
@@ -225,28 +213,6 @@ fn exported_line(alloc: Global, count: Count, folder: &str) -> Result<Shown, All
     Ok(line)
 }
 
-/// Ends the export of a store: tells which records were left out, since their messages are not the ones that were captured, and
-/// writes the events of the others, what lists them, and how much it is. Answers what stands against it: `BadData` where something
-/// stands against an event, and where a record was left out, which was told.
-fn finish_store<S: Alter>(
-    rt: &HostRuntime,
-    archive: &mut Store<S>,
-    out: Outgoing<Folder<'_>>,
-    file: &str,
-    choice: &Choice<'_>,
-    target: Target<'_>,
-) -> Result<Result<(), Failure>, Failure> {
-    let mut out = out;
-    out.destination.noted.altered.tell_in(rt, None)?;
-    let judged = match export_history(rt, archive, &mut out.destination)? {
-        Ok(()) => out.destination.noted.altered.end(),
-        Err(failure) => Err(failure),
-    };
-    let conditions = conditions_of(rt.alloc(), choice)?;
-    finish(rt, out, file, conditions.as_deref(), target)?;
-    Ok(judged)
-}
-
 /// Exports the records that meet a choice, and whose messages have what is asked of them, to a folder in which none of the
 /// files is yet, and writes how much that is. The index is written after the messages, with the file of the store and what
 /// was asked for: where it is missing, the export was cut off. `BadData` where the class is none of the plan, and where a
@@ -263,11 +229,18 @@ pub fn export_to<S: Alter>(
     let seals = Seals::of(rt, archive)?;
     let folder = Folder::new(rt, target.folder, None);
     let (search, out) = export_records(rt, archive, choice, questions, seals, folder)?;
-    let Some(out) = out else {
-        return Err(end_of_none(rt, archive, search));
+    let Some(mut out) = out else {
+        search.end(rt, archive)?;
+        return Err(nothing_exported(rt.alloc()));
     };
     let ended = search.end(rt, archive);
-    let judged = finish_store(rt, archive, out, file, choice, target)?;
+    out.destination.noted.altered.tell_in(rt, None)?;
+    let judged = match export_history(rt, archive, &mut out.destination)? {
+        Ok(()) => out.destination.noted.altered.end(),
+        Err(failure) => Err(failure),
+    };
+    let conditions = conditions_of(rt.alloc(), choice)?;
+    finish(rt, out, file, conditions.as_deref(), target)?;
     ended?;
     judged
 }
