@@ -20,8 +20,7 @@ use cli_texts::{
 };
 use command_lines::archives::{Choice, Format, Listing};
 use record_choice::Repository;
-use record_store::{RecordEntry, Store, StoreFault};
-use sqlite::Alter;
+use record_store::{RecordEntry, StoreFault};
 use std::alloc::{AllocError, Global};
 
 /// After how many octets a list is written.
@@ -354,9 +353,9 @@ fn list_to<'s, 'a, R: Repository<Fault = StoreFault>, K: Sink + Drop>(
 
 /// Writes the records that meet a choice, and whose messages have what is asked of them, with what a format has before and
 /// after them. `BadData` where the class is none of the plan, and where a number that is typed by itself is not found.
-pub fn write_list<S: Alter>(
+pub fn write_list<R: Repository<Fault = StoreFault>>(
     rt: &HostRuntime,
-    archive: &mut Store<S>,
+    archive: &mut R,
     choice: &Choice<'_>,
     questions: &Questions,
     listing: Listing,

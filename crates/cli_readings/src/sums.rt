@@ -5,10 +5,9 @@ use class_plan::day_number;
 use cli_console::{Failure, Walk, message_of};
 use cli_history::{Fidelity, Seals};
 use cli_texts::plan_text;
-use record_choice::Choice;
-use record_store::{RecordEntry, Store};
+use record_choice::{Choice, Repository};
+use record_store::{RecordEntry, StoreFault};
 use sha2::{Digest, Sha256};
-use sqlite::Alter;
 use std::alloc::AllocError;
 use std::collections::BTreeMap;
 
@@ -113,10 +112,10 @@ impl<'s> Summing<'s> {
 
     /// Adds the message of a live record, unless that of a record before was the same, and notes the record where it is not
     /// the one that was captured.
-    fn add_message<S: Alter>(
+    fn add_message<R: Repository<Fault = StoreFault>>(
         &mut self,
         rt: &HostRuntime,
-        archive: &mut Store<S>,
+        archive: &mut R,
         entry: &RecordEntry,
     ) -> Result<(), Failure> {
         if entry.destroyed {
@@ -137,10 +136,10 @@ impl<'s> Summing<'s> {
     }
 
     /// Adds all records and their messages.
-    fn add_all<S: Alter>(
+    fn add_all<R: Repository<Fault = StoreFault>>(
         &mut self,
         rt: &HostRuntime,
-        archive: &mut Store<S>,
+        archive: &mut R,
     ) -> Result<(), Failure> {
         let every = Choice::every();
         let mut walk = Walk::from(&every, 1);
@@ -159,9 +158,9 @@ impl<'s> Summing<'s> {
 
 /// Reads a whole archive: its plan, its records with their holds, and its messages, each of which is judged by its seal. A
 /// failure is that of the store.
-pub fn judged_summary<S: Alter>(
+pub fn judged_summary<R: Repository<Fault = StoreFault>>(
     rt: &HostRuntime,
-    archive: &mut Store<S>,
+    archive: &mut R,
     seals: &Seals,
 ) -> Result<Judged, Failure> {
     let mut summing = Summing::new(rt, seals);
@@ -191,7 +190,10 @@ pub fn judged_summary<S: Alter>(
 }
 
 /// Reads a whole archive: its plan, its records with their holds, and its messages. A failure is that of the store.
-pub fn summary_of<S: Alter>(rt: &HostRuntime, archive: &mut Store<S>) -> Result<Summary, Failure> {
+pub fn summary_of<R: Repository<Fault = StoreFault>>(
+    rt: &HostRuntime,
+    archive: &mut R,
+) -> Result<Summary, Failure> {
     let Judged { summary, .. } = judged_summary(rt, archive, &Seals::none(rt.alloc()))?;
     Ok(summary)
 }
