@@ -13,7 +13,7 @@ use desk_commands::Payload;
 use std::alloc::{AllocError, AllocFailed, Global};
 use std::fmt::Display;
 use std::io::{self, ErrorKind};
-use tool_texts::{Shown, put};
+use tool_texts::Shown;
 
 /// How many octets a file of numbers may have.
 const MOST: usize = 16_777_216;
@@ -154,23 +154,26 @@ fn unread(rt: &HostRuntime, path: &str, error: &io::Error) -> Failure {
 
 /// The text of a file of numbers.
 fn text_at(rt: &HostRuntime, path: &str) -> Result<Vec<u8>, Failure> {
-    match octets_at(rt, path).map_err(|error| unread(rt, path, &error))? {
-        Payload::Whole(text) => Ok(text),
-        Payload::TooLong => Err(failure_at(
+    match octets_at(rt, path) {
+        Ok(Payload::Whole(text)) => Ok(text),
+        Ok(Payload::TooLong) => Err(failure_at(
             rt.alloc(),
             Status::Usage,
             path,
             &"more than 16,777,216 octets",
         )),
-        Payload::NoMemory => Err(Failure::NoMemory),
+        Ok(Payload::NoMemory) => Err(Failure::NoMemory),
+        Err(error) => Err(unread(rt, path, &error)),
     }
 }
 
 /// That a word is no numbers.
 fn word_words(alloc: Global, word: &[u8]) -> Result<Shown, AllocError> {
     let mut text = Shown::new(alloc);
-    put!(text; quoted(word)
-        " is neither a number of a record, as 3, nor a range of numbers, as 5-9; of a volume as 3/17 and 3/5-9")?;
+    text.quoted(word)?;
+    text.words(
+        " is neither a number of a record, as 3, nor a range of numbers, as 5-9; of a volume as 3/17 and 3/5-9",
+    )?;
     Ok(text)
 }
 

@@ -26,14 +26,17 @@ pub trait Printer: Drop {
 
 /// Writes a certificate. Where that fails, it goes to standard error instead, and no more is destroyed.
 fn write_certificate(rt: &HostRuntime, text: &Shown) -> Result<(), Failure> {
-    write_text(rt, text).map_err(|_| {
-        tell(rt, text);
-        Failure::told(
-            rt.alloc(),
-            Status::NotWritten,
-            "the certificate above could not be written to standard output; no further record is destroyed",
-        )
-    })
+    match write_text(rt, text) {
+        Ok(()) => Ok(()),
+        Err(_) => {
+            tell(rt, text);
+            Err(Failure::told(
+                rt.alloc(),
+                Status::NotWritten,
+                "the certificate above could not be written to standard output; no further record is destroyed",
+            ))
+        }
+    }
 }
 
 /// Prints on standard output.

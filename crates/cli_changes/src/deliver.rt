@@ -12,7 +12,7 @@ ghost use Rattle.cli_changes.specs.Deliveries.{
 ghost use Rattle.cli_changes.specs.Endings.{desk_status as desk_status_of, fault_of, IsFailureOf};
 ghost use Rattle.record_ledger.specs.Ledgers.{keeper_of};
 
-use crate::fault_words::{Cause, fault_words, given_up_words};
+use crate::fault_words::{Cause, given_up_words, put_fault};
 use crate::moments::{Timing, date_of_clock, moment_in};
 use crate::rules::FilingRules;
 use crate::time_limit::{TimeLimit, too_slow_words};
@@ -26,7 +26,7 @@ use record_archive::{Line, Records};
 use sieve_meaning::RunFault;
 use sqlite::Alter;
 use std::alloc::{AllocError, Global};
-use tool_texts::{Shown, put};
+use tool_texts::Shown;
 
 /// The status for what a desk refuses; none where there was no memory.
 pub(crate) fn desk_status(fault: DeskFault) -> Option<Status>
@@ -64,35 +64,38 @@ pub fn desk_failure(alloc: Global, name: &str, fault: DeskFault) -> Failure
     }
 }
 
-/// The record lines of a capture, each after a text; or that the message was discarded. They name the volume that the records
+/// Adds the record lines of a capture, each after a text; or that the message was discarded. They name the volume that the records
 /// are in, in an archive of volumes.
-fn record_lines(
+fn put_records(
     alloc: Global,
+    text: &mut Shown,
     before: &Shown,
     volume: Option<u32>,
     capture: &Capture,
-) -> Result<Shown, AllocError> {
-    let mut text = Shown::new(alloc);
+) -> Result<(), AllocError> {
     for line in capture.lines.as_slice() {
-        put!(text; text(before) text(&captured_line(alloc, volume, line)?))?;
+        text.text(before)?;
+        text.text(&captured_line(alloc, volume, line)?)?;
     }
-    if capture.lines.is_empty() {
-        put!(text; text(before) "discarded")?;
-        text.end_line()?;
+    if !capture.lines.is_empty() {
+        return Ok(());
     }
-    Ok(text)
+    text.text(before)?;
+    text.words("discarded")?;
+    text.end_line()
 }
 
-/// What is told of a record that is due as it is captured.
-fn due_words(
+/// Adds what is told of a record that is due as it is captured.
+fn put_due(
     alloc: Global,
+    text: &mut Shown,
     before: &Shown,
     volume: Option<u32>,
     line: &Line,
-) -> Result<Shown, AllocError> {
-    let mut text = Shown::new(alloc);
-    put!(text; text(before) text(&captured_words(alloc, volume, line)?) " is due already")?;
-    Ok(text)
+) -> Result<(), AllocError> {
+    text.text(before)?;
+    text.text(&captured_words(alloc, volume, line)?)?;
+    text.words(" is due already")
 }
 
 /// Tells of the records of a capture that are due by the day of the clock.
@@ -102,8 +105,9 @@ fn tell_due(rt: &HostRuntime, before: &Shown, volume: Option<u32>, capture: &Cap
     };
     for line in capture.lines.as_slice() {
         if is_by(line.due, today) {
-            if let Ok(words) = due_words(rt.alloc(), before, volume, line) {
-                tell(rt, &words);
+            let mut text = Shown::new(rt.alloc());
+            if let Ok(()) = put_due(rt.alloc(), &mut text, before, volume, line) {
+                tell(rt, &text);
             }
         }
     }
@@ -120,16 +124,16 @@ pub fn undecoded_in(alloc: Global, message: &Payload) -> Vec<Shown> {
     }
 }
 
-/// Two texts, one behind the other.
-fn joined(alloc: Global, before: &Shown, after: &Shown) -> Result<Shown, AllocError> {
-    let mut text = Shown::new(alloc);
-    put!(text; text(before) text(after))?;
-    Ok(text)
+/// Adds two texts, one behind the other.
+fn put_both(text: &mut Shown, before: &Shown, after: &Shown) -> Result<(), AllocError> {
+    text.text(before)?;
+    text.text(after)
 }
 
 /// Tells a line, after a text.
 fn tell_line(rt: &HostRuntime, before: &Shown, line: &Shown) {
-    if let Ok(text) = joined(rt.alloc(), before, line) {
+    let mut text = Shown::new(rt.alloc());
+    if let Ok(()) = put_both(&mut text, before, line) {
         tell(rt, &text);
     }
 }
@@ -141,11 +145,23 @@ fn tell_lines(rt: &HostRuntime, before: &Shown, lines: &[Shown]) {
     }
 }
 
+/// Adds the fault of a run in words after a text, with what is known of it.
+fn put_fault_line(
+    text: &mut Shown,
+    before: &Shown,
+    fault: RunFault,
+    cause: Option<&Cause>,
+) -> Result<(), AllocError> {
+    text.text(before)?;
+    put_fault(text, fault, cause)
+}
+
 /// Tells of the fault with which the run over a captured message ended, if it did, with what is known of it.
 pub fn tell_fault(rt: &HostRuntime, before: &Shown, capture: &Capture, cause: Option<&Cause>) {
     if let Some(fault) = capture.fault {
-        if let Ok(words) = fault_words(rt.alloc(), fault, cause) {
-            tell_line(rt, before, &words);
+        let mut text = Shown::new(rt.alloc());
+        if let Ok(()) = put_fault_line(&mut text, before, fault, cause) {
+            tell(rt, &text);
         }
     }
 }
@@ -160,7 +176,8 @@ pub fn report_capture(
     undecoded: &[Shown],
     cause: Option<&Cause>,
 ) {
-    if let Ok(text) = record_lines(rt.alloc(), before, volume, capture) {
+    let mut text = Shown::new(rt.alloc());
+    if let Ok(()) = put_records(rt.alloc(), &mut text, before, volume, capture) {
         let _ = write_text(rt, &text);
     }
     tell_due(rt, before, volume, capture);
@@ -171,12 +188,13 @@ pub fn report_capture(
 /// The message on standard input. `BadData` with the number of one that is too long; where it cannot be read it may be
 /// done later, `TryAgain`.
 pub fn read_message(rt: &HostRuntime) -> Result<Payload, Failure> {
-    let message = read_payload(rt.alloc(), rt.stdin(), MAX_MESSAGE_OCTETS).map_err(
-        |error| Failure::at_thing(rt.alloc(), Status::TryAgain, "standard input", &error),
-    )?;
-    match message {
-        Payload::TooLong => Err(desk_failure(rt.alloc(), "the message", DeskFault::MessageTooLong)),
-        message => Ok(message),
+    let alloc = rt.alloc();
+    match read_payload(alloc, rt.stdin(), MAX_MESSAGE_OCTETS) {
+        Ok(Payload::TooLong) => {
+            Err(desk_failure(alloc, "the message", DeskFault::MessageTooLong))
+        }
+        Ok(message) => Ok(message),
+        Err(error) => { Err(Failure::at_thing(alloc, Status::TryAgain, "standard input", &error)) }
     }
 }
 

@@ -5,8 +5,8 @@ ghost use Rattle.cli_changes.specs.DisposalTallies.{EndsAs, tally_after};
 
 use class_plan::Date;
 use cli_console::{Failure, tell, tell_words_in};
-use std::alloc::{AllocError, Global};
-use tool_texts::{Shown, put};
+use std::alloc::AllocError;
+use tool_texts::Shown;
 
 /// What disposals have come to in the stores so far.
 #[derive(Clone, Copy)]
@@ -17,16 +17,16 @@ pub struct DisposalTally {
     pub(crate) is_any_gone: bool,
 }
 
-/// That no record is due by a day and may be destroyed, of all or of those that are typed.
-fn none_words(alloc: Global, is_typed: bool, day: Date) -> Result<Shown, AllocError> {
-    let whose = if is_typed {
+/// Adds that no record is due by a day and may be destroyed, of all or of those that are typed.
+fn put_none(text: &mut Shown, is_typed: bool, day: Date) -> Result<(), AllocError> {
+    text.words(if is_typed {
         "none of these records"
     } else {
         "no record"
-    };
-    let mut text = Shown::new(alloc);
-    put!(text; words(whose) " is due by " value(&day) " and may be destroyed")?;
-    Ok(text)
+    })?;
+    text.words(" is due by ")?;
+    text.value(&day)?;
+    text.words(" and may be destroyed")
 }
 
 impl DisposalTally {
@@ -68,9 +68,12 @@ impl DisposalTally {
 
     /// Tells, where there was no record, that none is due by the day and may be destroyed, of all or of those that are typed.
     pub fn tell_none(&self, rt: &HostRuntime, is_typed: bool, day: Date) -> Result<(), Failure> {
-        if !self.is_any {
-            tell(rt, &none_words(rt.alloc(), is_typed, day)?);
+        if self.is_any {
+            return Ok(());
         }
+        let mut text = Shown::new(rt.alloc());
+        put_none(&mut text, is_typed, day)?;
+        tell(rt, &text);
         Ok(())
     }
 }

@@ -14,7 +14,7 @@ use std::alloc::{AllocError, Global};
 use tool_inquiry::{
     Culprit, Faulted, Inquiry, InquiryFault, ScriptFile, Scripts, fault_of, script_of,
 };
-use tool_texts::{Shown, fault_text, put};
+use tool_texts::{Shown, fault_text};
 
 /// A script of rules as it is run; none where it is not good.
 fn file_of(
@@ -44,6 +44,18 @@ fn add_files(
     Ok(())
 }
 
+/// The scripts that a program can include, its officer's own and those for all officers, as far as they are good.
+fn others_of(
+    alloc: Global,
+    own: &[Script],
+    globals: &[Script],
+) -> Result<Vec<ScriptFile>, AllocError> {
+    let mut others = Vec::new(alloc);
+    add_files(alloc, &mut others, own, Location::Personal)?;
+    add_files(alloc, &mut others, globals, Location::Global)?;
+    Ok(others)
+}
+
 /// The scripts of rules as they are run; none where the program, which is the first one, is not good.
 fn scripts_of(alloc: Global, rules: &Rules) -> Result<Option<Scripts>, InquiryFault> {
     let Some((program, own)) = rules.scripts.as_slice().split_first() else {
@@ -52,14 +64,7 @@ fn scripts_of(alloc: Global, rules: &Rules) -> Result<Option<Scripts>, InquiryFa
     let Some(main) = file_of(alloc, program, Location::Personal)? else {
         return Ok(None);
     };
-    let mut others = Vec::new(alloc);
-    add_files(alloc, &mut others, own, Location::Personal)?;
-    add_files(
-        alloc,
-        &mut others,
-        rules.globals.as_slice(),
-        Location::Global,
-    )?;
+    let others = others_of(alloc, own, rules.globals.as_slice())?;
     Ok(Some(Scripts::new(alloc, main, others)?))
 }
 
@@ -159,6 +164,24 @@ fn faulted_by<'q>(
     fault_of(alloc, &inquiry)
 }
 
+/// What is known of the fault in which the run of scripts over a message ends, by the open classes of a plan. None where they end
+/// in another one.
+fn cause_by(
+    alloc: Global,
+    scripts: &Scripts,
+    program: &str,
+    plan: &Plan,
+    fault: RunFault,
+    message: &[u8],
+) -> Result<Option<Cause>, InquiryFault> {
+    match faulted_by(alloc, scripts, plan, message)? {
+        Some(faulted) if faulted.fault == fault => {
+            Ok(Some(cause_in(alloc, plan, faulted, program)?))
+        }
+        _ => Ok(None),
+    }
+}
+
 /// What is known of the fault in which the run of rules over a message ends, by the open classes of a plan. None where that is
 /// not known, as for want of memory.
 pub fn cause_of_fault(
@@ -168,14 +191,9 @@ pub fn cause_of_fault(
     fault: RunFault,
     message: &[u8],
 ) -> Result<Option<Cause>, InquiryFault> {
-    let Some(scripts) = scripts_of(alloc, rules)? else {
-        return Ok(None);
-    };
-    match faulted_by(alloc, &scripts, plan, message)? {
-        Some(faulted) if faulted.fault == fault => {
-            Ok(Some(cause_in(alloc, plan, faulted, rules.main.as_str())?))
-        }
-        _ => Ok(None),
+    match scripts_of(alloc, rules)? {
+        Some(scripts) => cause_by(alloc, &scripts, rules.main.as_str(), plan, fault, message),
+        None => Ok(None),
     }
 }
 
@@ -184,41 +202,50 @@ fn text_of(fault: RunFault) -> &'static str {
     fault_text(fault.number()).unwrap_or("the run ended with a fault")
 }
 
+/// What stands in a text before a mark; all of it where it has none.
+fn before(text: &'static str, mark: &str) -> &'static str {
+    match text.split_once(mark) {
+        Some((first, _)) => first,
+        None => text,
+    }
+}
+
 /// The beginning of a text, up to its first comma or semicolon.
 fn beginning(text: &'static str) -> &'static str {
-    let text = text.split_once(", ").map_or(text, |(first, _)| first);
-    text.split_once("; ").map_or(text, |(first, _)| first)
+    let text = before(text, ", ");
+    before(text, "; ")
 }
 
 /// Adds the number of a fault, and where it is if that is known.
 fn push_fault(text: &mut Shown, fault: RunFault, cause: Option<&Cause>) -> Result<(), AllocError> {
-    put!(text; "fault " value(&fault.number()) ": ")?;
-    match cause {
-        Some(cause) => put!(text; text(&cause.place) ": "),
-        None => Ok(()),
-    }
+    text.words("fault ")?;
+    text.value(&fault.number())?;
+    text.words(": ")?;
+    let Some(cause) = cause else {
+        return Ok(());
+    };
+    text.text(&cause.place)?;
+    text.words(": ")
 }
 
 /// Why the class is not open that a fault is of, where that is known.
 fn class_of(cause: Option<&Cause>) -> Option<Unopened> {
-    cause.and_then(|cause| cause.class)
+    cause?.class
 }
 
-/// The fault of a run in words, with what is known of it.
-pub fn fault_words(
-    alloc: Global,
+/// Adds the fault of a run in words, with what is known of it.
+pub fn put_fault(
+    text: &mut Shown,
     fault: RunFault,
     cause: Option<&Cause>,
-) -> Result<Shown, AllocError> {
-    let mut text = Shown::new(alloc);
-    push_fault(&mut text, fault, cause)?;
-    match class_of(cause) {
-        Some(class) => put!(text;
-            words(class.words()) ", so nothing but unfiled captured the message; "
-            words(class.mend()))?,
-        None => text.words(text_of(fault))?,
-    }
-    Ok(text)
+) -> Result<(), AllocError> {
+    push_fault(text, fault, cause)?;
+    let Some(class) = class_of(cause) else {
+        return text.words(text_of(fault));
+    };
+    text.words(class.words())?;
+    text.words(", so nothing but unfiled captured the message; ")?;
+    text.words(class.mend())
 }
 
 /// The fault of a run in words, where its message was given up, with what is known of it.
@@ -233,6 +260,7 @@ pub fn given_up_words(
         Some(class) => class.words(),
         None => beginning(text_of(fault)),
     };
-    put!(text; words(words) "; the message is not captured")?;
+    text.words(words)?;
+    text.words("; the message is not captured")?;
     Ok(text)
 }

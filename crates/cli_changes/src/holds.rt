@@ -343,22 +343,22 @@ impl HoldTally {
     }
 }
 
-/// That a hold was placed on no record, and why: none was found, or it keeps those that were found already.
-fn no_more_line(
-    alloc: Global,
+/// Adds the line that a hold was placed on no record, and why: none was found, or it keeps those that were found already.
+fn put_no_more(
+    line: &mut Shown,
     name: &str,
     passed: u64,
     destroyed: u64,
-) -> Result<Shown, AllocError> {
-    let mut line = Shown::new(alloc);
-    put!(line; "hold " named(name.as_bytes()) " keeps no record more: ")?;
+) -> Result<(), AllocError> {
+    line.words("hold ")?;
+    line.named(name.as_bytes())?;
+    line.words(" keeps no record more: ")?;
     match (passed, destroyed) {
         (0, 0) => line.words("no record is found")?,
         (0, destroyed) => put!(line; "found 0 live, " value(&destroyed) " destroyed")?,
         (passed, _) => put!(line; "0 new, " value(&passed) " kept already")?,
     }
-    line.end_line()?;
-    Ok(line)
+    line.end_line()
 }
 
 /// Ends what placed a hold on records: where it was placed on none, and none was refused, that is written. `BadData` where one was
@@ -370,7 +370,8 @@ fn end_placing(rt: &HostRuntime, name: &str, tally: HoldTally) -> Result<(), Fai
     if tally.changed.is_any {
         return Ok(());
     }
-    let line = no_more_line(rt.alloc(), name, tally.passed, tally.destroyed)?;
+    let mut line = Shown::new(rt.alloc());
+    put_no_more(&mut line, name, tally.passed, tally.destroyed)?;
     write_text(rt, &line)
 }
 

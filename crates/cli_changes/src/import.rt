@@ -51,7 +51,7 @@ use record_archive::Records;
 use sqlite::Alter;
 use std::alloc::{AllocError, Global};
 use std::{io, mem, slice};
-use tool_texts::{Shown, put};
+use tool_texts::Shown;
 
 /// How many seconds a day has.
 const DAY: u64 = 86_400;
@@ -91,7 +91,8 @@ impl Drop for MailImport<'_> {
 /// What is told of a day that has not come.
 fn not_come_words(alloc: Global, day: Date) -> Result<Shown, AllocError> {
     let mut text = Shown::new(alloc);
-    put!(text; value(&day) ": this day has not come yet")?;
+    text.value(&day)?;
+    text.words(": this day has not come yet")?;
     Ok(text)
 }
 
@@ -151,8 +152,10 @@ pub(crate) fn source_failure(rt: &HostRuntime, path: &str, fault: SourceFault) -
 fn sources_at<'a>(rt: &HostRuntime, paths: &[&'a str]) -> Result<Vec<Source<'a>>, Failure> {
     let mut sources = Vec::with_capacity(rt.alloc(), paths.len())?;
     for path in paths {
-        let source = source_at(rt, *path).map_err(|fault| source_failure(rt, *path, fault))?;
-        sources.push(source)?;
+        match source_at(rt, *path) {
+            Ok(source) => sources.push(source)?,
+            Err(fault) => return Err(source_failure(rt, *path, fault)),
+        }
     }
     Ok(sources)
 }

@@ -9,7 +9,7 @@ use cli_texts::put_number;
 use mail_dates::{Dated, Dating};
 use mail_import::{FirstRecord, ImportTally, Stay};
 use mail_sources::{PassedOver, maildir_around};
-use std::alloc::{AllocError, Global};
+use std::alloc::AllocError;
 use tool_texts::{Shown, put};
 
 /// Adds how many there are of something.
@@ -22,37 +22,35 @@ fn put_count(
     put!(text; value(&count) " " words(if count == 1 { one } else { many }))
 }
 
-/// The line of what became of messages.
-fn tally_line(alloc: Global, tally: &ImportTally) -> Result<Shown, AllocError> {
+/// Adds the line of what became of messages.
+fn put_tally(text: &mut Shown, tally: &ImportTally) -> Result<(), AllocError> {
     let staying = tally.unfit.saturating_add(tally.given_up);
-    let mut text = Shown::new(alloc);
     put!(text; "taken " value(&tally.taken) ", captured already " value(&tally.known)
         ", stay " value(&staying))?;
-    text.end_line()?;
-    Ok(text)
+    text.end_line()
 }
 
 /// Writes what became of messages. All is done then, so whatever happens to the line is no failure.
 pub(crate) fn write_tally(rt: &HostRuntime, tally: &ImportTally) {
-    if let Ok(text) = tally_line(rt.alloc(), tally) {
+    let mut text = Shown::new(rt.alloc());
+    if let Ok(()) = put_tally(&mut text, tally) {
         let _ = write_text(rt, &text);
     }
 }
 
-/// That files and folders were passed over.
-fn passed_words(alloc: Global, tally: &ImportTally) -> Result<Shown, AllocError> {
-    let mut text = Shown::new(alloc);
+/// Adds that files and folders were passed over, of which there is one at least.
+fn put_passed(text: &mut Shown, tally: &ImportTally) -> Result<(), AllocError> {
     text.words("passed over: ")?;
     if tally.files > 0 {
-        put_count(&mut text, tally.files, "file", "files")?;
+        put_count(text, tally.files, "file", "files")?;
     }
     if tally.files > 0 && tally.folders > 0 {
         text.words(", ")?;
     }
-    if tally.folders > 0 {
-        put_count(&mut text, tally.folders, "folder", "folders")?;
+    if tally.folders == 0 {
+        return Ok(());
     }
-    Ok(text)
+    put_count(text, tally.folders, "folder", "folders")
 }
 
 /// Tells how many files and folders were passed over, if any.
@@ -60,7 +58,8 @@ pub(crate) fn tell_passed(rt: &HostRuntime, tally: &ImportTally) {
     if tally.files == 0 && tally.folders == 0 {
         return;
     }
-    if let Ok(text) = passed_words(rt.alloc(), tally) {
+    let mut text = Shown::new(rt.alloc());
+    if let Ok(()) = put_passed(&mut text, tally) {
         tell(rt, &text);
     }
 }
@@ -79,73 +78,70 @@ pub(crate) fn end_of(tally: &ImportTally) -> Result<(), Failure>
     Ok(())
 }
 
-/// What is told of a message that is captured already.
-fn known_words(alloc: Global, name: &str, first: FirstRecord) -> Result<Shown, AllocError> {
-    let mut text = Shown::new(alloc);
-    put!(text; named(name.as_bytes()) " is captured already, as record ")?;
-    put_number(&mut text, first.volume, first.number)?;
-    Ok(text)
+/// Adds what is told of a message that is captured already.
+fn put_known(text: &mut Shown, name: &str, first: FirstRecord) -> Result<(), AllocError> {
+    text.named(name.as_bytes())?;
+    text.words(" is captured already, as record ")?;
+    put_number(text, first.volume, first.number)
 }
 
 /// Tells that a message is captured already, and its first record.
 pub(crate) fn tell_known(rt: &HostRuntime, name: &str, first: FirstRecord) {
-    if let Ok(text) = known_words(rt.alloc(), name, first) {
+    let mut text = Shown::new(rt.alloc());
+    if let Ok(()) = put_known(&mut text, name, first) {
         tell(rt, &text);
     }
 }
 
-/// What is told of a Maildir in a source.
-fn maildir_words(alloc: Global, path: &str) -> Result<Shown, AllocError> {
-    let mut text = Shown::new(alloc);
-    put!(text; named(path.as_bytes()) ": a Maildir too, which is not taken; name it to import it")?;
-    Ok(text)
+/// Adds what is told of a Maildir in a source.
+fn put_maildir(text: &mut Shown, path: &str) -> Result<(), AllocError> {
+    text.named(path.as_bytes())?;
+    text.words(": a Maildir too, which is not taken; name it to import it")
 }
 
 /// Tells of the Maildirs in a source, which are not taken.
 pub(crate) fn tell_maildirs(rt: &HostRuntime, passed: &PassedOver) {
     for path in &passed.maildirs {
-        if let Ok(text) = maildir_words(rt.alloc(), path.as_str()) {
+        let mut text = Shown::new(rt.alloc());
+        if let Ok(()) = put_maildir(&mut text, path.as_str()) {
             tell(rt, &text);
         }
     }
 }
 
-/// What is told of a folder without a message, with the path of the Maildir to which it belongs, if that is known.
-fn empty_words(alloc: Global, path: &str, maildir: Option<&str>) -> Result<Shown, AllocError> {
-    let mut text = Shown::new(alloc);
-    put!(text; "no message is found in " named(path.as_bytes()))?;
-    if let Some(maildir) = maildir {
-        put!(text; "; to import the Maildir, name " named(maildir.as_bytes()))?;
-    }
-    Ok(text)
+/// Adds what is told of a folder without a message, with the path of the Maildir to which it belongs, if that is known.
+fn put_empty(text: &mut Shown, path: &str, maildir: Option<&str>) -> Result<(), AllocError> {
+    text.words("no message is found in ")?;
+    text.named(path.as_bytes())?;
+    let Some(maildir) = maildir else {
+        return Ok(());
+    };
+    text.words("; to import the Maildir, name ")?;
+    text.named(maildir.as_bytes())
 }
 
 /// Tells that a folder has no message, and of which Maildir it is a part.
 pub(crate) fn tell_empty(rt: &HostRuntime, path: &str) {
-    if let Ok(text) = empty_words(rt.alloc(), path, maildir_around(rt, path)) {
+    let mut text = Shown::new(rt.alloc());
+    if let Ok(()) = put_empty(&mut text, path, maildir_around(rt, path)) {
         tell(rt, &text);
     }
 }
 
-/// What is told of lines of an mbox that look like separators and have no date.
-fn undated_lines_words(
-    alloc: Global,
-    path: &str,
-    first: u64,
-    count: u64,
-) -> Result<Shown, AllocError> {
-    let mut text = Shown::new(alloc);
+/// Adds what is told of lines of an mbox that look like separators and have no date.
+fn put_undated(text: &mut Shown, path: &str, first: u64, count: u64) -> Result<(), AllocError> {
     put!(text; named(path.as_bytes()) ": line " value(&first)
         " begins with From and has no date, so no message begins there")?;
-    if count > 1 {
-        put!(text; "; there are " value(&count) " such lines")?;
+    if count <= 1 {
+        return Ok(());
     }
-    Ok(text)
+    put!(text; "; there are " value(&count) " such lines")
 }
 
 /// Tells of the lines of an mbox that look like separators and have no date: the number of the first one, and how many there are.
 pub(crate) fn tell_undated(rt: &HostRuntime, path: &str, first: u64, count: u64) {
-    if let Ok(text) = undated_lines_words(rt.alloc(), path, first, count) {
+    let mut text = Shown::new(rt.alloc());
+    if let Ok(()) = put_undated(&mut text, path, first, count) {
         tell(rt, &text);
     }
 }

@@ -28,7 +28,7 @@ use crate::import::{MailImport, source_failure};
 use crate::import_log::{stay_words, tell_empty, tell_known, tell_maildirs, tell_undated};
 use crate::import_rounds::{ImportRounds, Reached};
 use crate::intake::maildir_failure;
-use crate::intake_room::{given_up, unfit, unread, words_of};
+use crate::intake_room::{given_up, unfit, unread};
 use crate::rounds::Round;
 use crate::space::Place;
 use crate::time_limit::{TimeLimit, too_slow_reason};
@@ -72,7 +72,10 @@ fn files_in(rt: &HostRuntime, source: Source<'_>) -> Result<MailFiles, Failure> 
         Source::Mbox(path) | Source::Folder(path) => (path, MailFiles::of_folder(rt, path)),
         Source::Maildir(path) => (path, MailFiles::of_maildir(rt, path)),
     };
-    files.map_err(|error| maildir_failure(rt, path, error))
+    match files {
+        Ok(files) => Ok(files),
+        Err(error) => Err(maildir_failure(rt, path, error)),
+    }
 }
 
 /// Files of a source without the first so many.
@@ -97,17 +100,18 @@ fn pass_messages(
     count: usize,
 ) -> Result<(), Failure> {
     for _ in 0..count {
-        mbox.next_message()
-            .map_err(|error| maildir_failure(rt, path, error))?;
+        if let Err(error) = mbox.next_message() {
+            return Err(maildir_failure(rt, path, error));
+        }
     }
     Ok(())
 }
 
 /// The octets of the file at a path.
-fn octets_at(rt: &HostRuntime, path: &str) -> Result<Vec<u8>, Reason> {
+pub(crate) fn octets_at(rt: &HostRuntime, path: &str) -> Result<Vec<u8>, Reason> {
     match payload_of_no_link(rt, path, MAX_MESSAGE_OCTETS) {
         Ok(Payload::Whole(octets)) => Ok(octets),
-        Ok(Payload::TooLong) => Err(unfit(words_of(rt.alloc(), "more than 8,388,608 octets"))),
+        Ok(Payload::TooLong) => Err(unfit(rt.alloc(), "more than 8,388,608 octets")),
         Ok(Payload::NoMemory) => Err(Reason::NoMemory),
         Err(error) => Err(unread(rt.alloc(), &error)),
     }
@@ -453,11 +457,10 @@ impl<'a, A: Records> OldMailroom for ImportRoom<'a, A> {
 
     fn open(&self, path: &str) -> Result<BoxReader, Failure> {
         let rt = self.job.rt;
-        let mut mbox = BoxReader::open(rt, path).map_err(|fault| source_failure(
-            rt,
-            path,
-            SourceFault::from(fault),
-        ))?;
+        let mut mbox = match BoxReader::open(rt, path) {
+            Ok(mbox) => mbox,
+            Err(fault) => return Err(source_failure(rt, path, SourceFault::from(fault))),
+        };
         pass_messages(rt, &mut mbox, path, self.reached.in_source())?;
         Ok(mbox)
     }
@@ -471,8 +474,10 @@ impl<'a, A: Records> OldMailroom for ImportRoom<'a, A> {
         mbox: &mut BoxReader,
         path: &str,
     ) -> Result<Option<BoxMessage>, Failure> {
-        mbox.next_message()
-            .map_err(|error| maildir_failure(self.job.rt, path, error))
+        match mbox.next_message() {
+            Ok(message) => Ok(message),
+            Err(error) => Err(maildir_failure(self.job.rt, path, error)),
+        }
     }
 
     fn undated(&self, mbox: &BoxReader, _path: &str) -> UndatedLines {
@@ -490,7 +495,10 @@ impl<'a, A: Records> OldMailroom for ImportRoom<'a, A> {
     fn beside(&self, source: Source<'_>) -> Result<PassedOver, Failure> {
         let rt = self.job.rt;
         let (Source::Mbox(path) | Source::Folder(path) | Source::Maildir(path)) = source;
-        let passed = PassedOver::of(rt, source).map_err(|error| maildir_failure(rt, path, error))?;
+        let passed = match PassedOver::of(rt, source) {
+            Ok(passed) => passed,
+            Err(error) => return Err(maildir_failure(rt, path, error)),
+        };
         if !self.job.is_quiet {
             tell_maildirs(rt, &passed);
         }

@@ -20,7 +20,7 @@ use crate::moments::{Timing, day_of_moment, timing_in};
 use crate::rounds::{Round, Rounds, left_of, together};
 use crate::rules::FilingRules;
 use crate::space::Place;
-use crate::time_of_day::time_of_day;
+use crate::time_of_day::put_time;
 use cli_console::{Failure, Status, now};
 use cli_history::StoreLedger;
 use cli_sources::maildir::{NewMail, has_cur, new_mail, try_move};
@@ -130,7 +130,8 @@ fn take_over<A: Records>(
     room: &mut Room<'_, A>,
     begun: u64,
 ) -> Result<(), Failure> {
-    let since = time_of_day(rt.alloc(), begun)?;
+    let mut since = Shown::new(rt.alloc());
+    put_time(&mut since, begun)?;
     let day = day_of_moment(begun);
     let recalled = recall(&room.job, room.has_complained);
     let taking = take_in(room, &recalled.memory, day)?;
@@ -148,14 +149,18 @@ fn take_over<A: Records>(
 
 /// The new messages of a Maildir that are left for a round, if they can be moved.
 fn movable_mail(rt: &HostRuntime, maildir: &str, rounds: &Rounds) -> Result<NewMail, Failure> {
-    let NewMail { names, nameless } = new_mail(rt, maildir).map_err(|error| maildir_failure(
-        rt, maildir, error,
-    ))?;
+    let NewMail { names, nameless } = match new_mail(rt, maildir) {
+        Ok(mail) => mail,
+        Err(error) => return Err(maildir_failure(rt, maildir, error)),
+    };
     let names = left_of(names, rounds);
-    if !names.is_empty() {
-        try_move(rt, maildir).map_err(|error| maildir_failure(rt, maildir, error))?;
+    if names.is_empty() {
+        return Ok(NewMail { names, nameless });
     }
-    Ok(NewMail { names, nameless })
+    match try_move(rt, maildir) {
+        Ok(()) => Ok(NewMail { names, nameless }),
+        Err(error) => Err(maildir_failure(rt, maildir, error)),
+    }
 }
 
 /// The same, and the moment at which they are looked for.

@@ -3,7 +3,7 @@
 use crate::deliver::{report_capture, tell_fault};
 use crate::fault_words::Cause;
 use crate::rules::FilingRules;
-use crate::time_of_day::line_start;
+use crate::time_of_day::put_start;
 use cli_console::{tell, tell_words, write_text};
 use command_lines::archives::Telling;
 use desk_commands::Capture;
@@ -28,22 +28,19 @@ impl<'a> IntakeLog<'a> {
         IntakeLog { rt, telling }
     }
 
-    /// What a line begins with.
-    fn line(&self) -> Result<Shown, AllocError> {
-        line_start(self.rt, self.telling.has_times)
-    }
-
-    /// What is told of a message that stays.
-    fn stays_text(&self, name: &str, reason: &str) -> Result<Shown, AllocError> {
-        let mut text = self.line()?;
-        put!(text; named(name.as_bytes()) " stays: " value(&reason))?;
-        Ok(text)
+    /// Adds what is told of a message that stays.
+    fn put_stay(&self, text: &mut Shown, name: &str, reason: &str) -> Result<(), AllocError> {
+        put_start(self.rt, text, self.telling.has_times)?;
+        text.named(name.as_bytes())?;
+        text.words(" stays: ")?;
+        text.value(&reason)
     }
 
     /// Names a message that stays, with the reason. Without memory for that, it is only said that one stays.
     pub fn name_one(&self, name: &str, reason: &str) {
-        match self.stays_text(name, reason) {
-            Ok(text) => tell(self.rt, &text),
+        let mut text = Shown::new(self.rt.alloc());
+        match self.put_stay(&mut text, name, reason) {
+            Ok(()) => tell(self.rt, &text),
             Err(_) => tell_words(
                 self.rt,
                 "a message stays, and there is no memory to name it",
@@ -51,32 +48,37 @@ impl<'a> IntakeLog<'a> {
         }
     }
 
-    /// What is told of a file of a Maildir in which it cannot be remembered what was told.
-    fn forgotten_text(
+    /// Adds what is told of a file of a Maildir in which it cannot be remembered what was told.
+    fn put_forgotten(
         &self,
-        maildir: &str,
-        name: &str,
+        text: &mut Shown,
+        path: &str,
         error: &io::Error,
-    ) -> Result<Shown, AllocError> {
-        let path = format!(in self.rt.alloc(); "{maildir}/{name}")?;
-        let mut text = self.line()?;
-        put!(text;
-            named(path.as_bytes()) ": " value(error) "; what stays may be told again on this day")?;
-        Ok(text)
+    ) -> Result<(), AllocError> {
+        put_start(self.rt, text, self.telling.has_times)?;
+        text.named(path.as_bytes())?;
+        text.words(": ")?;
+        text.value(error)?;
+        text.words("; what stays may be told again on this day")
     }
 
     /// Tells that it cannot be remembered in a file of a Maildir what was told.
     pub fn tell_forgotten(&self, maildir: &str, name: &str, error: &io::Error) {
-        if let Ok(text) = self.forgotten_text(maildir, name, error) {
+        let alloc = self.rt.alloc();
+        let Ok(path) = format!(in alloc; "{maildir}/{name}") else {
+            return;
+        };
+        let mut text = Shown::new(alloc);
+        if let Ok(()) = self.put_forgotten(&mut text, path.as_str(), error) {
             tell(self.rt, &text);
         }
     }
 
-    /// The name of a message before what is said of it.
-    fn name_before(&self, name: &str) -> Result<Shown, AllocError> {
-        let mut text = self.line()?;
-        put!(text; named(name.as_bytes()) ": ")?;
-        Ok(text)
+    /// Adds the name of a message before what is said of it.
+    fn put_name(&self, text: &mut Shown, name: &str) -> Result<(), AllocError> {
+        put_start(self.rt, text, self.telling.has_times)?;
+        text.named(name.as_bytes())?;
+        text.words(": ")
     }
 
     /// Reports a capture, in a volume of an archive of volumes, each line after the name of its message, as far as there is memory for
@@ -89,13 +91,13 @@ impl<'a> IntakeLog<'a> {
         undecoded: &[Shown],
         cause: Option<&Cause>,
     ) {
-        let Ok(before) = self.name_before(name) else {
-            return;
-        };
-        if self.telling.is_quiet {
-            tell_fault(self.rt, &before, capture, cause);
-        } else {
-            report_capture(self.rt, &before, volume, capture, undecoded, cause);
+        let mut before = Shown::new(self.rt.alloc());
+        if let Ok(()) = self.put_name(&mut before, name) {
+            if self.telling.is_quiet {
+                tell_fault(self.rt, &before, capture, cause);
+            } else {
+                report_capture(self.rt, &before, volume, capture, undecoded, cause);
+            }
         }
     }
 
@@ -113,29 +115,35 @@ impl<'a> IntakeLog<'a> {
         }
     }
 
-    /// What is told of messages whose names are no UTF-8.
-    fn nameless_text(&self, count: usize) -> Result<Shown, AllocError> {
-        let mut text = self.line()?;
-        put!(text; "messages that stay, since their names are no UTF-8: " value(&count))?;
-        Ok(text)
+    /// Adds what is told of messages whose names are no UTF-8.
+    fn put_nameless(&self, text: &mut Shown, count: usize) -> Result<(), AllocError> {
+        put_start(self.rt, text, self.telling.has_times)?;
+        text.words("messages that stay, since their names are no UTF-8: ")?;
+        text.value(&count)
     }
 
     /// Tells how many messages stay, since their names are no UTF-8.
     pub fn tell_nameless(&self, count: usize) {
-        match self.nameless_text(count) {
-            Ok(text) => tell(self.rt, &text),
+        let mut text = Shown::new(self.rt.alloc());
+        match self.put_nameless(&mut text, count) {
+            Ok(()) => tell(self.rt, &text),
             Err(_) => tell_words(self.rt, "messages stay whose names are no UTF-8"),
         }
     }
 
-    /// What became of all messages, and since when, as a line.
-    fn summary(&self, tally: &Tally, nameless: usize, since: &Shown) -> Result<Shown, AllocError> {
-        let mut text = self.line()?;
+    /// Adds what became of all messages, and since when, as a line.
+    fn put_summary(
+        &self,
+        text: &mut Shown,
+        tally: &Tally,
+        nameless: usize,
+        since: &Shown,
+    ) -> Result<(), AllocError> {
+        put_start(self.rt, text, self.telling.has_times)?;
         put!(text;
             "taken " value(&tally.taken) ", stay " value(&tally.staying(nameless))
             ", since " text(since))?;
-        text.end_line()?;
-        Ok(text)
+        text.end_line()
     }
 
     /// Writes what became of all messages, and since when, unless it is quiet or there were none. All is done then, so
@@ -145,7 +153,8 @@ impl<'a> IntakeLog<'a> {
         if self.telling.is_quiet || is_of_none {
             return;
         }
-        if let Ok(text) = self.summary(tally, nameless, since) {
+        let mut text = Shown::new(self.rt.alloc());
+        if let Ok(()) = self.put_summary(&mut text, tally, nameless, since) {
             let _ = write_text(self.rt, &text);
         }
     }

@@ -64,9 +64,9 @@ fn octets_at(rt: &HostRuntime, path: &str) -> io::Result<Option<Vec<u8>>> {
     }
 }
 
-/// What is remembered in the file at a path, where it was told already, or not, that it cannot be read or written.
-fn recall_at(rt: &HostRuntime, path: &str, has_failed: bool) -> io::Result<Recalled> {
-    let octets = octets_at(rt, path)?;
+/// What is remembered in a Maildir, where it was told already, or not, that its file cannot be read or written.
+fn recall_in(rt: &HostRuntime, maildir: &str, has_failed: bool) -> io::Result<Recalled> {
+    let octets = octets_at(rt, path_in(rt.alloc(), maildir, NAME)?.as_str())?;
     let memory = match &octets {
         Some(octets) => Memory::read(rt.alloc(), octets.as_slice())?,
         None => None,
@@ -86,14 +86,10 @@ fn complain(job: &Intake<'_>, error: &io::Error) {
     }
 }
 
-/// What is remembered in a Maildir, where it was told already, or not, that its file cannot be read or written.
+/// The same. Where the file cannot be read, nothing is remembered, and that is told, unless it was told already.
 pub(crate) fn recall(job: &Intake<'_>, has_failed: bool) -> Recalled {
     let rt = job.rt;
-    match path_in(rt.alloc(), job.maildir, NAME).and_then(|path| recall_at(
-        rt,
-        path.as_str(),
-        has_failed,
-    )) {
+    match recall_in(rt, job.maildir, has_failed) {
         Ok(recalled) => recalled,
         Err(error) => {
             if !has_failed {
@@ -128,19 +124,29 @@ fn make_at(rt: &HostRuntime, path: &str, octets: &[u8]) -> io::Result<()> {
     file.sync_all()
 }
 
+/// Makes a new file with these octets, and puts it in the place of the one at a path.
+fn put_in_place(rt: &HostRuntime, new: &str, path: &str, octets: &[u8]) -> io::Result<()> {
+    make_at(rt, new, octets)?;
+    fs::rename(rt, new, path)
+}
+
 /// Puts a file with these octets in the place of the one that is there.
 fn replace(rt: &HostRuntime, maildir: &str, octets: &[u8]) -> io::Result<()> {
     let path = path_in(rt.alloc(), maildir, NAME)?;
     let new = path_in(rt.alloc(), maildir, NEW_NAME)?;
-    let done = make_at(rt, new.as_str(), octets).and_then(|()| fs::rename(
-        rt,
-        new.as_str(),
-        path.as_str(),
-    ));
+    let done = put_in_place(rt, new.as_str(), path.as_str(), octets);
     if done.is_err() {
         let _ = fs::remove_file(rt, new.as_str());
     }
     done
+}
+
+/// A message and the words for its stay once more.
+fn copy_of(alloc: Global, told: &Told) -> Result<Told, AllocError> {
+    Ok(Told {
+        name: Vec::from_slice(alloc, told.name.as_slice())?,
+        words: Vec::from_slice(alloc, told.words.as_slice())?,
+    })
 }
 
 /// Adds what was told, as far as there is room for it. Answers how much room is left.
@@ -161,10 +167,7 @@ fn add_copies(
             break;
         }
         room -= octets;
-        memory.told.push(Told {
-            name: Vec::from_slice(alloc, told.name.as_slice())?,
-            words: Vec::from_slice(alloc, told.words.as_slice())?,
-        })?;
+        memory.told.push(copy_of(alloc, told)?)?;
     }
     Ok(room)
 }

@@ -33,6 +33,7 @@ ghost use Rattle.cli_changes.specs.Spaces.{is_full as is_full_space};
 
 use crate::deliver::{desk_status, undecoded_in};
 use crate::fault_words::{Cause, given_up_words};
+use crate::import_room::octets_at;
 use crate::intake::{Intake, maildir_failure};
 use crate::intake_memory::told_of;
 use crate::moments::Timing;
@@ -42,8 +43,7 @@ use crate::time_limit::{TimeLimit, too_slow_reason};
 use class_plan::Plan;
 use cli_console::{Failure, Status};
 use cli_sources::maildir::{NewMail, is_in_cur, move_to_cur, new_path, settle};
-use cli_sources::payload_of_no_link;
-use desk_commands::{Capture, DeskFault, MAX_MESSAGE_OCTETS, Payload};
+use desk_commands::{Capture, DeskFault, Payload};
 use filing_desk::{Delivery, Desk, deliver};
 use mail_intake::{Listing, Mailroom, Memory, Reason, Refusal, Taken, Tally, Told};
 use record_archive::Records;
@@ -51,7 +51,7 @@ use sieve_meaning::RunFault;
 use std::alloc::{AllocError, Global};
 use std::io::{self, ErrorKind};
 use std::mem;
-use tool_texts::{Shown, put};
+use tool_texts::Shown;
 
 /// A Maildir, the desk that captures its messages, and what is said of them.
 #[derive(Drop)]
@@ -79,15 +79,7 @@ pub(crate) struct Room<'a, A> {
     pub told: Vec<Told>,
 }
 
-/// A reason that was just put into words, if there was memory for them.
-pub(crate) fn unfit(words: Result<Shown, AllocError>) -> Reason {
-    match words {
-        Ok(words) => Reason::Unfit(words.into_string()),
-        Err(AllocError) => Reason::NoMemory,
-    }
-}
-
-/// The same of a message that is given up.
+/// The reason of a message that is given up, which was just put into words, if there was memory for them.
 pub(crate) fn given_up(words: Result<Shown, AllocError>) -> Reason
     ensures { IsGivenUp result }
 {
@@ -97,25 +89,24 @@ pub(crate) fn given_up(words: Result<Shown, AllocError>) -> Reason
     }
 }
 
-/// Words of the program.
-pub(crate) fn words_of(alloc: Global, words: &'static str) -> Result<Shown, AllocError> {
+/// Why a message is unfit, in words of the program, if there is memory for them.
+pub(crate) fn unfit(alloc: Global, words: &'static str) -> Reason {
     let mut text = Shown::new(alloc);
-    text.words(words)?;
-    Ok(text)
-}
-
-/// An error in words.
-fn error_words(alloc: Global, error: &io::Error) -> Result<Shown, AllocError> {
-    let mut text = Shown::new(alloc);
-    text.value(error)?;
-    Ok(text)
+    match text.words(words) {
+        Ok(()) => Reason::Unfit(text.into_string()),
+        Err(AllocError) => Reason::NoMemory,
+    }
 }
 
 /// Why a message stays whose file cannot be had.
 pub(crate) fn unread(alloc: Global, error: &io::Error) -> Reason {
-    match error.kind() {
-        ErrorKind::OutOfMemory => Reason::NoMemory,
-        _ => unfit(error_words(alloc, error)),
+    if let ErrorKind::OutOfMemory = error.kind() {
+        return Reason::NoMemory;
+    }
+    let mut text = Shown::new(alloc);
+    match text.value(error) {
+        Ok(()) => Reason::Unfit(text.into_string()),
+        Err(AllocError) => Reason::NoMemory,
     }
 }
 
@@ -123,32 +114,26 @@ pub(crate) fn unread(alloc: Global, error: &io::Error) -> Reason {
 fn judge_name(rt: &HostRuntime, maildir: &str, name: &str) -> Result<(), Reason> {
     match is_in_cur(rt, maildir, name) {
         Ok(false) => Ok(()),
-        Ok(true) => Err(unfit(words_of(rt.alloc(), "cur has a message of this name"))),
+        Ok(true) => Err(unfit(rt.alloc(), "cur has a message of this name")),
         Err(error) => Err(unread(rt.alloc(), &error)),
     }
 }
 
 /// The octets of a new message.
 fn octets_of(rt: &HostRuntime, maildir: &str, name: &str) -> Result<Vec<u8>, Reason> {
-    let alloc = rt.alloc();
-    let Ok(path) = new_path(alloc, maildir, name) else {
-        return Err(Reason::NoMemory);
-    };
     judge_name(rt, maildir, name)?;
-    match payload_of_no_link(rt, path.as_str(), MAX_MESSAGE_OCTETS) {
-        Ok(Payload::Whole(octets)) => Ok(octets),
-        Ok(Payload::TooLong) => Err(unfit(words_of(alloc, "more than 8,388,608 octets"))),
-        Ok(Payload::NoMemory) => Err(Reason::NoMemory),
-        Err(error) => Err(unread(alloc, &error)),
+    match new_path(rt.alloc(), maildir, name) {
+        Ok(path) => octets_at(rt, path.as_str()),
+        Err(_) => Err(Reason::NoMemory),
     }
 }
 
 /// What is told of a message that is captured and could not be moved.
 fn not_moved(alloc: Global, name: &str, error: &io::Error) -> Result<Shown, AllocError> {
     let mut text = Shown::new(alloc);
-    put!(text; named(name.as_bytes())
-        " is captured, but still in new, where the next intake would capture it again: "
-        value(error))?;
+    text.named(name.as_bytes())?;
+    text.words(" is captured, but still in new, where the next intake would capture it again: ")?;
+    text.value(error)?;
     Ok(text)
 }
 
@@ -299,7 +284,10 @@ impl<'a, A: Records> Room<'a, A> {
         ensures { IsQuiet self.old self.new }
     {
         self.speak();
-        let cause = capture.fault.and_then(|fault| self.cause_of(name, fault));
+        let cause = match capture.fault {
+            Some(fault) => self.cause_of(name, fault),
+            None => None,
+        };
         let volume = self.place.volume;
         self.job
             .log

@@ -28,7 +28,7 @@ use command_lines::archives::Moment;
 use record_choice::{Choice, Repository};
 use record_store::{RecordEntry, StoreFault};
 use std::alloc::{AllocError, Global};
-use tool_texts::{Shown, put};
+use tool_texts::Shown;
 
 /// How many seconds a day has.
 const DAY: u64 = 86_400;
@@ -86,7 +86,10 @@ pub fn judge_moment(asked: Moment, now: u64, last: Option<u32>) -> Result<u64, M
 fn put_day(text: &mut Shown, number: u64) -> Result<(), AllocError> {
     match date_of(i64::try_from(number).unwrap_or(i64::MAX)) {
         Some(date) => text.value(&date),
-        None => put!(text; "day " value(&number)),
+        None => {
+            text.words("day ")?;
+            text.value(&number)
+        }
     }
 }
 
@@ -109,14 +112,21 @@ fn day_begun(moment: u64) -> Option<Date> {
     date_of(i64::try_from(day_of_moment(moment)).ok()?)
 }
 
-/// What is told of a moment that has not come: as a day, where one begins with it, and else in seconds since 1970.
+/// Adds what is told of a moment that has not come: as a day, where one begins with it, and else in seconds since 1970.
+fn put_not_come(text: &mut Shown, moment: u64) -> Result<(), AllocError> {
+    text.words("--at ")?;
+    let Some(day) = day_begun(moment) else {
+        text.value(&moment)?;
+        return text.words(": this moment has not come yet");
+    };
+    text.value(&day)?;
+    text.words(": this day has not come yet")
+}
+
+/// The same in a text.
 fn not_come_words(alloc: Global, moment: u64) -> Result<Shown, AllocError> {
     let mut text = Shown::new(alloc);
-    text.words("--at ")?;
-    match day_begun(moment) {
-        Some(day) => put!(text; value(&day) ": this day has not come yet")?,
-        None => put!(text; value(&moment) ": this moment has not come yet")?,
-    }
+    put_not_come(&mut text, moment)?;
     Ok(text)
 }
 

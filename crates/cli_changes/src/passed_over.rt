@@ -157,6 +157,20 @@ fn passed_of<R: Repository<Fault = StoreFault>>(
     Ok(passed)
 }
 
+/// Those live records in ranges that are passed over.
+fn passed_in<R: Repository<Fault = StoreFault>>(
+    rt: &HostRuntime,
+    archive: &mut R,
+    ranges: Vec<Span>,
+    day: Date,
+) -> Result<PassedOver, Failure>
+    ensures { OnlyReads R.clean R.stands archive.old archive.new }
+{
+    let mut choice = Choice::live();
+    choice.numbers = Some(ranges);
+    passed_of(rt, archive, &choice, day)
+}
+
 /// Adds numbers of records as they are typed, of a volume if they have one, after a blank.
 fn put_after(text: &mut Shown, volume: Option<u32>, numbers: TypedNumbers) -> Result<(), AllocError>
     ensures { OnOk result (text.new ≡ text.old ++ numbers_after volume numbers) }
@@ -208,6 +222,14 @@ fn tell_numbers(
     Ok(())
 }
 
+/// Tells which records are passed over, and why.
+fn tell_each(rt: &HostRuntime, volume: Option<u32>, passed: &PassedOver) -> Result<(), AllocError> {
+    tell_numbers(rt, volume, "held", passed.held.as_slice())?;
+    let why = "not for destruction by the schedule of the class";
+    tell_numbers(rt, volume, why, passed.not_for_destruction.as_slice())?;
+    tell_numbers(rt, volume, "not due", passed.not_due.as_slice())
+}
+
 /// Tells which live records in the ranges that are typed, of a volume in an archive of volumes, may not be destroyed by a day, and
 /// why. A failure is that of the store, or no memory.
 pub(crate) fn tell_passed_over<R: Repository<Fault = StoreFault>>(
@@ -223,12 +245,6 @@ pub(crate) fn tell_passed_over<R: Repository<Fault = StoreFault>>(
     if ranges.is_empty() {
         return Ok(());
     }
-    let mut choice = Choice::live();
-    choice.numbers = Some(ranges);
-    let passed = passed_of(rt, archive, &choice, day)?;
-    tell_numbers(rt, volume, "held", passed.held.as_slice())?;
-    let why = "not for destruction by the schedule of the class";
-    tell_numbers(rt, volume, why, passed.not_for_destruction.as_slice())?;
-    tell_numbers(rt, volume, "not due", passed.not_due.as_slice())?;
-    Ok(())
+    let passed = passed_in(rt, archive, ranges, day)?;
+    Ok(tell_each(rt, volume, &passed)?)
 }

@@ -13,7 +13,7 @@ use cli_history::StoreLedger;
 use cli_texts::{plan_of_text, plan_text};
 use record_archive::Records;
 use sqlite::Alter;
-use std::alloc::{AllocError, Global};
+use std::alloc::AllocError;
 use tool_plans::{dropped_paths, renaming_of};
 use tool_texts::{Shown, put};
 
@@ -23,7 +23,8 @@ const MAX_NAMED: usize = 20;
 /// Adds the classes that a plan leaves out, the first of them by name.
 fn put_dropped(text: &mut Shown, dropped: &[&[u8]]) -> Result<(), AllocError> {
     for path in dropped.iter().take(MAX_NAMED) {
-        put!(text; " " quoted(*path))?;
+        text.words(" ")?;
+        text.quoted(*path)?;
     }
     match dropped.len().saturating_sub(MAX_NAMED) {
         0 => Ok(()),
@@ -31,28 +32,26 @@ fn put_dropped(text: &mut Shown, dropped: &[&[u8]]) -> Result<(), AllocError> {
     }
 }
 
-/// That a plan leaves out classes of the present one. Where that is one class, and one is new, the class was more likely to get
+/// Adds that a plan leaves out classes of the present one. Where that is one class, and one is new, the class was more likely to get
 /// another path, so both are named.
-fn dropped_text(
-    alloc: Global,
+fn put_left_out(
+    text: &mut Shown,
     path: &str,
     dropped: &[&[u8]],
     new: &[&[u8]],
-) -> Result<Shown, AllocError> {
-    let mut text = Shown::new(alloc);
-    put!(text; named(path.as_bytes()) ": 57: the new plan leaves out")?;
-    put_dropped(&mut text, dropped)?;
+) -> Result<(), AllocError> {
+    text.named(path.as_bytes())?;
+    text.words(": 57: the new plan leaves out")?;
+    put_dropped(text, dropped)?;
     if let Some(renaming) = renaming_of(dropped, new) {
-        put!(text; ", and has " quoted(renaming.to)
+        return put!(text; ", and has " quoted(renaming.to)
             ", which is new; a class keeps its path: keep " quoted(renaming.from)
-            " with open = false, and file to " quoted(renaming.to))?;
-        return Ok(text);
+            " with open = false, and file to " quoted(renaming.to));
     }
     text.words(match dropped {
         [_] => "; list it, and close it by open = false if nothing is to be filed there",
         _ => "; list them, and close by open = false those in which nothing is to be filed",
-    })?;
-    Ok(text)
+    })
 }
 
 /// Finds that a plan of a file has each class of the present one. `BadData` where it leaves one out.
@@ -63,8 +62,9 @@ fn judge_classes(rt: &HostRuntime, present: &Plan, new: &Plan, path: &str) -> Re
         return Ok(());
     }
     let added = dropped_paths(alloc, new, present)?;
-    let text = dropped_text(alloc, path, dropped.as_slice(), added.as_slice());
-    Err(Failure::shown(Status::BadData, text))
+    let mut text = Shown::new(alloc);
+    put_left_out(&mut text, path, dropped.as_slice(), added.as_slice())?;
+    Err(Failure::Told(Status::BadData, text))
 }
 
 /// Finds that a plan may replace that of an archive: it has each of its classes, and once it was printed what that changes in the

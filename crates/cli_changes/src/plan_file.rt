@@ -4,7 +4,7 @@ use class_plan::{Plan, PlanFault};
 use cli_console::{Failure, Status, refusal_words};
 use cli_sources::payload_of_file;
 use desk_commands::{MAX_PLAN_OCTETS, Payload};
-use std::alloc::{AllocError, Global};
+use std::alloc::AllocError;
 use std::io::ErrorKind;
 use tool_texts::{Shown, put};
 
@@ -14,21 +14,24 @@ const PLAN_ENDING: &str = ".toml";
 /// The number of a plan's text that is too long.
 const TOO_LONG: u8 = 58;
 
-/// What is said of a plan that is refused by a number.
-fn refused_words(alloc: Global, path: &str, number: u8) -> Result<Shown, AllocError> {
-    let mut text = Shown::new(alloc);
+/// Adds what is said of a plan that is refused by a number.
+fn put_refused(text: &mut Shown, path: &str, number: u8) -> Result<(), AllocError> {
     put!(text; named(path.as_bytes()) ": " value(&number) ": " words(refusal_words(number)))?;
-    if path.ends_with(PLAN_ENDING) {
-        put!(text; "; mailfile-tool check " named(path.as_bytes()) " says where")?;
-    } else {
-        text.words("; mailfile-tool check says where, once the name ends with .toml")?;
+    if !path.ends_with(PLAN_ENDING) {
+        return text.words("; mailfile-tool check says where, once the name ends with .toml");
     }
-    Ok(text)
+    text.words("; mailfile-tool check ")?;
+    text.named(path.as_bytes())?;
+    text.words(" says where")
 }
 
 /// The failure of a plan that is refused by a number.
 fn plan_refused(rt: &HostRuntime, path: &str, number: u8) -> Failure {
-    Failure::shown(Status::BadData, refused_words(rt.alloc(), path, number))
+    let mut text = Shown::new(rt.alloc());
+    match put_refused(&mut text, path, number) {
+        Ok(()) => Failure::Told(Status::BadData, text),
+        Err(AllocError) => Failure::NoMemory,
+    }
 }
 
 /// The text of a plan's file.
@@ -48,8 +51,9 @@ fn read_text(rt: &HostRuntime, path: &str) -> Result<Vec<u8>, Failure> {
 /// The plan of a file. `NoInput` where the file cannot be read, and `BadData` with the number where its text is no plan.
 pub fn read_plan(rt: &HostRuntime, path: &str) -> Result<Plan, Failure> {
     let text = read_text(rt, path)?;
-    Plan::from_toml(rt.alloc(), text.as_slice()).map_err(|fault| match fault {
-        PlanFault::NoMemory => Failure::NoMemory,
-        fault => plan_refused(rt, path, fault.number()),
-    })
+    match Plan::from_toml(rt.alloc(), text.as_slice()) {
+        Ok(plan) => Ok(plan),
+        Err(PlanFault::NoMemory) => Err(Failure::NoMemory),
+        Err(fault) => Err(plan_refused(rt, path, fault.number())),
+    }
 }

@@ -27,12 +27,18 @@ fn check_scripts<S: Alter>(
     officer: &str,
     told: &mut Told,
 ) -> Result<Verdict, Failure> {
-    let rules = rules_of(rt, rules, officer).map_err(|failure| failure_of(failure))?;
+    let rules = match rules_of(rt, rules, officer) {
+        Ok(rules) => rules,
+        Err(failure) => return Err(failure_of(failure)),
+    };
     let around = Surroundings {
         plan: Some(archive.plan()),
         folders: rules.folders(),
     };
-    check_officer(rt, rules.main.as_str(), &around, told).map_err(|failure| failure_of(failure))
+    match check_officer(rt, rules.main.as_str(), &around, told) {
+        Ok(verdict) => Ok(verdict),
+        Err(failure) => Err(failure_of(failure)),
+    }
 }
 
 /// Writes why rules are not taken, as a line.
@@ -120,7 +126,9 @@ fn end_check(
     verdict: Verdict,
     told: &mut Told,
 ) -> Result<(), Failure> {
-    warn_of_globals(rt, rules, told).map_err(|failure| failure_of(failure))?;
+    if let Err(failure) = warn_of_globals(rt, rules, told) {
+        return Err(failure_of(failure));
+    }
     match verdict {
         Verdict::Good => Ok(()),
         Verdict::Refused => Err(Failure::Reported(Status::BadData)),
@@ -130,11 +138,13 @@ fn end_check(
 /// The officers whose rules are judged.
 fn officers_of(rt: &HostRuntime, asked: RulesChecked<'_>) -> Result<Vec<String>, Failure> {
     let Some(officer) = asked.officer else {
-        return officers_in(rt, asked.rules).map_err(|failure| failure_of(failure));
+        return match officers_in(rt, asked.rules) {
+            Ok(officers) => Ok(officers),
+            Err(failure) => Err(failure_of(failure)),
+        };
     };
-    let mut officers = Vec::new(rt.alloc());
-    officers.push(String::from_str(rt.alloc(), officer)?)?;
-    Ok(officers)
+    let officer = String::from_str(rt.alloc(), officer)?;
+    Ok(vec![in rt.alloc(); officer]?)
 }
 
 /// Judges rules by the plan of a store, as `deliver` would read them, and gives the store back as it is. What is wrong is

@@ -16,7 +16,7 @@ ghost use Rattle.cli_changes.specs.RuleSums.{rules_sum};
 
 use crate::fault_words::{Cause, cause_of_fault};
 use crate::rules_sum::sum_of_rules;
-use crate::time_of_day::{as_line, line_start};
+use crate::time_of_day::{as_line, put_start};
 use class_plan::Plan;
 use cli_console::{Failure, Status, tell};
 use cli_sources::{Rules, RulesFault, read_rules, set_rules};
@@ -26,7 +26,7 @@ use record_archive::Records;
 use sieve_meaning::RunFault;
 use std::alloc::{AllocError, Global};
 use tool_checks::push_officers;
-use tool_texts::{Shown, put};
+use tool_texts::Shown;
 
 /// How mail is filed.
 pub struct FilingRules<'a> {
@@ -189,13 +189,19 @@ impl<'a> FilingRules<'a> {
         })
     }
 
-    /// What is told of a script that the officer's program does not reach.
-    fn unused_words(&self, rt: &HostRuntime, path: &str, main: &str) -> Result<Shown, AllocError> {
-        let mut text = line_start(rt, self.has_times)?;
-        put!(text;
-            named(path.as_bytes()) ": warning: " named(main.as_bytes())
-            " does not reach this script")?;
-        Ok(text)
+    /// Adds what is told of a script that the officer's program does not reach.
+    fn put_unused(
+        &self,
+        rt: &HostRuntime,
+        text: &mut Shown,
+        path: &str,
+        main: &str,
+    ) -> Result<(), AllocError> {
+        put_start(rt, text, self.has_times)?;
+        text.named(path.as_bytes())?;
+        text.words(": warning: ")?;
+        text.named(main.as_bytes())?;
+        text.words(" does not reach this script")
     }
 
     /// Whose rules they are, and their sum; none where they are at fault.
@@ -218,8 +224,9 @@ impl<'a> FilingRules<'a> {
             return;
         };
         for path in &rules.unused {
-            if let Ok(words) = self.unused_words(rt, path.as_str(), rules.main.as_str()) {
-                tell(rt, &words);
+            let mut text = Shown::new(rt.alloc());
+            if let Ok(()) = self.put_unused(rt, &mut text, path.as_str(), rules.main.as_str()) {
+                tell(rt, &text);
             }
         }
     }

@@ -12,7 +12,7 @@ use cli_console::{Failure, Status, refusal_words, tell};
 use cli_texts::{number_text, put_number};
 use record_store::{ArchiveRefusal, StoreFault};
 use std::alloc::{AllocError, Global};
-use tool_texts::{Shown, put};
+use tool_texts::Shown;
 
 /// A change of single records of an archive, which is told once it is made.
 pub(crate) trait RecordChange<A> {
@@ -136,7 +136,10 @@ pub(crate) fn refusal_line(
     let refusal = refusal.number();
     let mut line = Shown::new(alloc);
     put_number(&mut line, volume, number)?;
-    put!(line; ": " value(&refusal) ": " words(refusal_words(refusal)))?;
+    line.words(": ")?;
+    line.value(&refusal)?;
+    line.words(": ")?;
+    line.words(refusal_words(refusal))?;
     Ok(line)
 }
 

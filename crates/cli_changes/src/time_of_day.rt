@@ -1,8 +1,8 @@
 //! The time of day, in UTC, as a log has it.
 
 use cli_console::{Failure, now};
-use std::alloc::{AllocError, Global};
-use tool_texts::{Shown, put};
+use std::alloc::AllocError;
+use tool_texts::Shown;
 
 /// The seconds of a day, of an hour and of a minute.
 const DAY: u64 = 86_400;
@@ -13,40 +13,36 @@ const MINUTE: u64 = 60;
 
 /// Adds a number of two digits.
 fn push_two(text: &mut Shown, number: u64) -> Result<(), AllocError> {
-    put!(text; value(&(number / 10)) value(&(number % 10)))
+    text.value(&(number / 10))?;
+    text.value(&(number % 10))
 }
 
-/// The time of day of a moment in seconds since 1970, as `09:00:03`.
-pub fn time_of_day(alloc: Global, moment: u64) -> Result<Shown, AllocError> {
+/// Adds the time of day of a moment in seconds since 1970, as `09:00:03`.
+pub fn put_time(text: &mut Shown, moment: u64) -> Result<(), AllocError> {
     let second = moment % DAY;
-    let mut text = Shown::new(alloc);
-    push_two(&mut text, second / HOUR)?;
+    push_two(text, second / HOUR)?;
     text.words(":")?;
-    push_two(&mut text, second % HOUR / MINUTE)?;
+    push_two(text, second % HOUR / MINUTE)?;
     text.words(":")?;
-    push_two(&mut text, second % MINUTE)?;
-    Ok(text)
+    push_two(text, second % MINUTE)
 }
 
-/// The time of day by the clock. `TryAgain` where there is none.
-fn time_now(rt: &HostRuntime) -> Result<Shown, Failure> {
-    Ok(time_of_day(rt.alloc(), now(rt)?)?)
-}
-
-/// What a line of a log begins with: the time of day, where that is asked for and there is a clock.
-pub fn line_start(rt: &HostRuntime, has_times: bool) -> Result<Shown, AllocError> {
-    let mut text = Shown::new(rt.alloc());
-    if has_times {
-        if let Ok(time) = time_now(rt) {
-            put!(text; text(&time) " ")?;
-        }
+/// Adds what a line of a log begins with: the time of day, where that is asked for and there is a clock.
+pub fn put_start(rt: &HostRuntime, line: &mut Shown, has_times: bool) -> Result<(), AllocError> {
+    if !has_times {
+        return Ok(());
     }
-    Ok(text)
+    let Ok(moment) = now(rt) else {
+        return Ok(());
+    };
+    put_time(line, moment)?;
+    line.words(" ")
 }
 
 /// A text as a line of a log.
 pub fn as_line(rt: &HostRuntime, has_times: bool, text: &Shown) -> Result<Shown, AllocError> {
-    let mut line = line_start(rt, has_times)?;
+    let mut line = Shown::new(rt.alloc());
+    put_start(rt, &mut line, has_times)?;
     line.text(text)?;
     Ok(line)
 }

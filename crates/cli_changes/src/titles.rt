@@ -11,7 +11,7 @@ use sqlite::Alter;
 use std::alloc::{AllocError, Global};
 use std::io::ErrorKind;
 use tool_plans::{GivenTitle, TitleFinding, TitlesFault, titles_of};
-use tool_texts::{Shown, place_of, put};
+use tool_texts::{Shown, place_of};
 
 /// How many octets a file of titles has at most.
 const MAX_TITLES_OCTETS: usize = 8_388_608;
@@ -30,18 +30,30 @@ pub fn read_titles(rt: &HostRuntime, path: &str) -> Result<Vec<u8>, Failure> {
     }
 }
 
-/// What is wrong with a file of titles, after its path, the line and the column.
-fn wrong_words(
-    alloc: Global,
+/// Adds what is wrong with a file of titles, after its path, the line and the column.
+fn put_wrong(
+    words: &mut Shown,
     path: &str,
     text: &[u8],
     finding: &TitleFinding,
-) -> Result<Shown, AllocError> {
+) -> Result<(), AllocError> {
     let place = place_of(text, finding.at);
+    words.named(path.as_bytes())?;
+    words.words(":")?;
+    words.value(&place.line)?;
+    words.words(":")?;
+    words.value(&place.column)?;
+    words.words(": ")?;
+    words.value(&finding.words)
+}
+
+/// The failure of a file of titles that gives none.
+fn wrong(alloc: Global, path: &str, text: &[u8], finding: &TitleFinding) -> Failure {
     let mut words = Shown::new(alloc);
-    put!(words; named(path.as_bytes()) ":" value(&place.line) ":" value(&place.column) ": "
-        value(&finding.words))?;
-    Ok(words)
+    match put_wrong(&mut words, path, text, finding) {
+        Ok(()) => Failure::Told(Status::BadData, words),
+        Err(AllocError) => Failure::NoMemory,
+    }
 }
 
 /// The titles that the text of a file gives classes of a plan. `BadData` with the place where it gives none.
@@ -51,12 +63,11 @@ fn judge_titles(
     text: &[u8],
     plan: &Plan,
 ) -> Result<Vec<GivenTitle>, Failure> {
-    titles_of(alloc, text, plan).map_err(|fault| match fault {
-        TitlesFault::NoMemory => Failure::NoMemory,
-        TitlesFault::Wrong(finding) => {
-            Failure::shown(Status::BadData, wrong_words(alloc, path, text, &finding))
-        }
-    })
+    match titles_of(alloc, text, plan) {
+        Ok(titles) => Ok(titles),
+        Err(TitlesFault::NoMemory) => Err(Failure::NoMemory),
+        Err(TitlesFault::Wrong(finding)) => Err(wrong(alloc, path, text, &finding)),
+    }
 }
 
 /// Titles as they are listed.
@@ -73,7 +84,7 @@ fn listed(alloc: Global, titles: &[GivenTitle]) -> Result<Vec<ListedTitle<'_>>, 
 }
 
 /// The lines of classes with their titles.
-fn lines_of(alloc: Global, titles: &[ListedTitle<'_>]) -> Result<Shown, AllocError> {
+fn lines_of(alloc: Global, titles: &[ListedTitle<'_>]) -> Result<Shown, Failure> {
     let mut text = Shown::new(alloc);
     for it in titles {
         text.text(&title_line(alloc, it)?)?;
@@ -98,7 +109,7 @@ fn note_given<S: Alter>(
     };
     let (archive, done) = note_titles(rt, noted, author, wanted.as_slice());
     let lines = match done {
-        Ok(changed) => lines_of(rt.alloc(), changed.as_slice()).map_err(|_| Failure::NoMemory),
+        Ok(changed) => lines_of(rt.alloc(), changed.as_slice()),
         Err(failure) => Err(failure),
     };
     (archive, lines)
