@@ -24,21 +24,6 @@ pub trait Printer: Drop {
         ensures { prints self.old self.new line.now };
 }
 
-/// Writes a certificate. Where that fails, it goes to standard error instead, and no more is destroyed.
-fn write_certificate(rt: &HostRuntime, text: &Shown) -> Result<(), Failure> {
-    match write_text(rt, text) {
-        Ok(()) => Ok(()),
-        Err(_) => {
-            tell(rt, text);
-            Err(Failure::told(
-                rt.alloc(),
-                Status::NotWritten,
-                "the certificate above could not be written to standard output; no further record is destroyed",
-            ))
-        }
-    }
-}
-
 /// Prints on standard output.
 #[derive(Drop)]
 pub struct StandardOutput<'r> {
@@ -48,8 +33,19 @@ pub struct StandardOutput<'r> {
 impl Printer for StandardOutput<'_> {
     ghost prints = { λ old new line. Unit {0} };
 
+    /// Writes a certificate. Where that fails, it goes to standard error instead, and no more is destroyed.
     fn print(&mut self, line: &Shown) -> Result<(), Failure> {
-        write_certificate(self.rt, line)
+        match write_text(self.rt, line) {
+            Ok(()) => Ok(()),
+            Err(_) => {
+                tell(self.rt, line);
+                Err(Failure::told(
+                    self.rt.alloc(),
+                    Status::NotWritten,
+                    "the certificate above could not be written to standard output; no further record is destroyed",
+                ))
+            }
+        }
     }
 }
 

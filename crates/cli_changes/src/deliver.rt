@@ -130,18 +130,13 @@ fn put_both(text: &mut Shown, before: &Shown, after: &Shown) -> Result<(), Alloc
     text.text(after)
 }
 
-/// Tells a line, after a text.
-fn tell_line(rt: &HostRuntime, before: &Shown, line: &Shown) {
-    let mut text = Shown::new(rt.alloc());
-    if let Ok(()) = put_both(&mut text, before, line) {
-        tell(rt, &text);
-    }
-}
-
 /// Tells lines, each after a text.
 fn tell_lines(rt: &HostRuntime, before: &Shown, lines: &[Shown]) {
     for line in lines {
-        tell_line(rt, before, line);
+        let mut text = Shown::new(rt.alloc());
+        if let Ok(()) = put_both(&mut text, before, line) {
+            tell(rt, &text);
+        }
     }
 }
 

@@ -442,8 +442,11 @@ impl<'a, A: Records> Room<'a, A> {
         if count == 0 {
             return;
         }
-        let words = count.to_string(self.job.rt.alloc()).ok();
-        let words = words.as_ref().map_or("", |words| words.as_str());
+        let number = count.to_string(self.job.rt.alloc());
+        let words = match &number {
+            Ok(number) => number.as_str(),
+            Err(_) => "",
+        };
         if memory.is_to_be_told(&[], words.as_bytes(), day) {
             self.job.log.tell_nameless(count);
         }

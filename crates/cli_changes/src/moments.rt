@@ -93,15 +93,13 @@ fn put_day(text: &mut Shown, number: u64) -> Result<(), AllocError> {
     }
 }
 
-/// What is told of a clock that is before the days of a store.
-fn behind_words(alloc: Global, today: u64, last: u32) -> Result<Shown, AllocError> {
-    let mut text = Shown::new(alloc);
+/// Adds what is told of a clock that is before the days of a store.
+fn put_behind(text: &mut Shown, today: u64, last: u32) -> Result<(), AllocError> {
     text.words("the clock says ")?;
-    put_day(&mut text, today)?;
+    put_day(text, today)?;
     text.words(", but the store has a record of ")?;
-    put_day(&mut text, u64::from(last))?;
-    text.words("; set the clock, or take it by --at now if that record is wrong")?;
-    Ok(text)
+    put_day(text, u64::from(last))?;
+    text.words("; set the clock, or take it by --at now if that record is wrong")
 }
 
 /// The day that begins with a moment, where one of the years 1970 to 9999 does.
@@ -123,26 +121,26 @@ fn put_not_come(text: &mut Shown, moment: u64) -> Result<(), AllocError> {
     text.words(": this day has not come yet")
 }
 
-/// The same in a text.
-fn not_come_words(alloc: Global, moment: u64) -> Result<Shown, AllocError> {
-    let mut text = Shown::new(alloc);
-    put_not_come(&mut text, moment)?;
-    Ok(text)
+/// Adds why nothing can be captured at the moment that is asked for.
+fn put_fault(text: &mut Shown, asked: Moment, fault: MomentFault) -> Result<(), AllocError> {
+    match (fault, asked) {
+        (MomentFault::NotCome, Moment::At(moment)) => put_not_come(text, moment),
+        (MomentFault::NotCome | MomentFault::PastLast, _) => text.words("the clock is after 2199"),
+        (MomentFault::Behind { today, last }, _) => put_behind(text, today, last),
+    }
 }
 
 /// The failure of the moment of a capture. `Usage` where one is named that has not come; where the clock is wrong it may be
 /// done later, `TryAgain`.
 fn moment_failure(alloc: Global, asked: Moment, fault: MomentFault) -> Failure {
-    match (fault, asked) {
-        (MomentFault::NotCome, Moment::At(moment)) => {
-            Failure::shown(Status::Usage, not_come_words(alloc, moment))
-        }
-        (MomentFault::NotCome | MomentFault::PastLast, _) => {
-            Failure::told(alloc, Status::TryAgain, "the clock is after 2199")
-        }
-        (MomentFault::Behind { today, last }, _) => {
-            Failure::shown(Status::TryAgain, behind_words(alloc, today, last))
-        }
+    let status = match (fault, asked) {
+        (MomentFault::NotCome, Moment::At(_)) => Status::Usage,
+        _ => Status::TryAgain,
+    };
+    let mut text = Shown::new(alloc);
+    match put_fault(&mut text, asked, fault) {
+        Ok(()) => Failure::Told(status, text),
+        Err(AllocError) => Failure::NoMemory,
     }
 }
 

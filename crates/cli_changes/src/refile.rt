@@ -67,15 +67,23 @@ fn judge_history(rt: &HostRuntime, is_noted: bool) -> Result<(), Failure>
     ))
 }
 
-/// That the class which records are to get is none of a plan, and which one was meant, perhaps.
-fn no_class(alloc: Global, to: &[u8], plan: &Plan) -> Result<Shown, AllocError> {
-    let mut text = Shown::new(alloc);
+/// Adds that the class which records are to get is none of a plan, and which one was meant, perhaps.
+fn put_no_class(alloc: Global, text: &mut Shown, to: &[u8], plan: &Plan) -> Result<(), AllocError> {
     let number = ArchiveRefusal::NoClass.number();
     put!(text; "--to " named(to) ": " value(&number) ": no class of the plan")?;
-    if let Some(meant) = meant_class(alloc, plan, to)? {
-        put!(text; "; is it " quoted(meant.as_bytes()) "?")?;
+    match meant_class(alloc, plan, to)? {
+        Some(meant) => put!(text; "; is it " quoted(meant.as_bytes()) "?"),
+        None => Ok(()),
     }
-    Ok(text)
+}
+
+/// The failure of a class that is none of a plan.
+fn no_class(alloc: Global, to: &[u8], plan: &Plan) -> Failure {
+    let mut text = Shown::new(alloc);
+    match put_no_class(alloc, &mut text, to, plan) {
+        Ok(()) => Failure::Told(Status::BadData, text),
+        Err(AllocError) => Failure::NoMemory,
+    }
 }
 
 /// Finds that the class which records are to get is one of the plan, open or closed. Else `BadData` (59).
@@ -83,7 +91,7 @@ fn judge_class(alloc: Global, to: &[u8], plan: &Plan) -> Result<(), Failure>
     ensures { OnOk result (has plan.now.rows to.now ≡ true) }
 {
     if plan.schedule_of(to).is_none() {
-        return Err(Failure::shown(Status::BadData, no_class(alloc, to, plan)));
+        return Err(no_class(alloc, to, plan));
     }
     Ok(())
 }

@@ -8,7 +8,6 @@ use record_store::Store;
 use sqlite::Alter;
 use tool_checks::{Surroundings, Told, check_officer, officers_in, rules_of, warn_of_globals};
 use tool_console::{Failure as ToolFailure, Verdict};
-use tool_texts::Shown;
 
 /// The failure of a check of scripts: a file that cannot be read is no input.
 fn failure_of(failure: ToolFailure) -> Failure {
@@ -41,19 +40,15 @@ fn check_scripts<S: Alter>(
     }
 }
 
-/// Writes why rules are not taken, as a line.
-fn write_refusal(rt: &HostRuntime, words: &Shown) -> Result<Verdict, Failure> {
-    let mut line = Shown::new(rt.alloc());
-    line.text(words)?;
-    line.end_line()?;
-    write_text(rt, &line)?;
-    Ok(Verdict::Refused)
-}
-
-/// Writes why rules are not taken, where that is the failure.
+/// Writes why rules are not taken, as a line, where that is the failure.
 fn refused_by(rt: &HostRuntime, failure: Failure) -> Result<Verdict, Failure> {
     match failure {
-        Failure::Told(_, words) => write_refusal(rt, &words),
+        Failure::Told(_, words) => {
+            let mut line = words;
+            line.end_line()?;
+            write_text(rt, &line)?;
+            Ok(Verdict::Refused)
+        }
         failure => Err(failure),
     }
 }
