@@ -7,22 +7,19 @@ use command_lines::archives::read_command_line;
 use command_lines::{fill_streams, words_of_process};
 use std::process::ExitCode;
 
-/// Executes the words of the command line.
-fn serve_words<A: Archives>(rt: &HostRuntime, archives: &A, words: &[String]) -> ExitCode {
-    match read_command_line(rt, words) {
-        Ok(line) => match execute(rt, archives, line) {
-            Ok(()) => ExitCode::SUCCESS,
-            Err(failure) => end_with(rt, &failure),
-        },
-        Err(none) => end_without_command(rt, none),
-    }
-}
-
 /// Reads the command line and executes it, over archives that are kept there.
 pub fn serve<A: Archives>(rt: &HostRuntime, archives: &A) -> ExitCode {
     let _ = fill_streams(rt);
-    match words_of_process(rt) {
-        Ok(words) => serve_words(rt, archives, words.as_slice()),
-        Err(none) => end_without_command(rt, none),
+    let words = match words_of_process(rt) {
+        Ok(words) => words,
+        Err(none) => return end_without_command(rt, none),
+    };
+    let line = match read_command_line(rt, words.as_slice()) {
+        Ok(line) => line,
+        Err(none) => return end_without_command(rt, none),
+    };
+    match execute(rt, archives, line) {
+        Ok(()) => ExitCode::SUCCESS,
+        Err(failure) => end_with(rt, &failure),
     }
 }

@@ -13,19 +13,14 @@ pub fn tell_failure(rt: &HostRuntime, failure: &Failure) {
     }
 }
 
-/// The status of a failure. It is that of success where the reader of the output has gone.
-fn code_of(failure: &Failure) -> ExitCode {
+/// Ends after a failure, which is written. The status is that of success where the reader of the output has gone.
+pub fn end_with(rt: &HostRuntime, failure: &Failure) -> ExitCode {
+    tell_failure(rt, failure);
     match failure {
         Failure::Closed => ExitCode::SUCCESS,
         Failure::NoMemory => Status::TryAgain.code(),
         Failure::Told(status, _) | Failure::Reported(status) => status.code(),
     }
-}
-
-/// Ends after a failure, which is written.
-pub fn end_with(rt: &HostRuntime, failure: &Failure) -> ExitCode {
-    tell_failure(rt, failure);
-    code_of(failure)
 }
 
 /// Ends where the command line has nothing to do, which is written unless it was. Help is no fault.
