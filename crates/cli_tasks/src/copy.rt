@@ -77,12 +77,20 @@ impl Damage {
 }
 
 /// A history that is copied.
-#[derive(Drop)]
 enum History {
     /// All of its lines.
     Lines(Lines),
     /// As far as it is whole. What is there is noted as found behind it by this author, where it is not whole.
     Whole(Whole, Author<'static>),
+}
+
+impl Drop for History {
+    fn drop(self) {
+        match self {
+            History::Lines(_) => {}
+            History::Whole(_, _) => {}
+        }
+    }
 }
 
 /// What is kept of an archive while it is copied.
@@ -222,26 +230,6 @@ fn read_all<S: Alter>(
     }
 }
 
-/// Begins the history of a draft with that of another archive.
-#[derive(Drop)]
-struct TakeOver<'h>(&'h History);
-
-impl Work for TakeOver<'_> {
-    type Answer = ();
-
-    fn work<S: Alter>(
-        self,
-        rt: &HostRuntime,
-        archive: Store<S>,
-    ) -> (Connection<S>, Result<(), Failure>) {
-        let (archive, begun) = match self.0 {
-            History::Lines(lines) => lines.begin(rt, archive),
-            History::Whole(whole, author) => whole.begin(rt, archive, author),
-        };
-        (archive.into_connection(), begun)
-    }
-}
-
 /// Takes a history over into a draft that was filled, where there is one. The draft is not opened again for that.
 fn take_over<T: Alter>(
     rt: &HostRuntime,
@@ -257,7 +245,13 @@ fn take_over<T: Alter>(
         return (filled, Err(busy));
     }
     match Store::adopt(rt.alloc(), filled) {
-        Ok(archive) => TakeOver(history).work(rt, archive),
+        Ok(archive) => {
+            let (archive, begun) = match history {
+                History::Lines(lines) => lines.begin(rt, archive),
+                History::Whole(whole, author) => whole.begin(rt, archive, author),
+            };
+            (archive.into_connection(), begun)
+        }
         Err((fault, filled)) => {
             let failure = Failure::of_store(rt.alloc(), "the new archive", fault);
             (filled, Err(not_made(failure)))
