@@ -69,25 +69,6 @@ impl Work for ReadHistory<'_, '_, '_> {
     }
 }
 
-/// Opens the history of a store, if it keeps one; where a mark is looked for, it has to: else `BadData`.
-fn open_for<S: Alter>(
-    rt: &HostRuntime,
-    archive: Store<S>,
-    head: Option<&str>,
-) -> Result<Opened<S>, (Store<S>, Failure)> {
-    match open_history(rt, archive) {
-        Ok(Opened::Plain(archive)) if head.is_some() => {
-            let failure = Failure::told(
-                rt.alloc(),
-                Status::BadData,
-                "the store has no history, and so not that of the mark: it is another store, or its history was removed; compare it with a back-up",
-            );
-            Err((archive, failure))
-        }
-        opened => opened,
-    }
-}
-
 /// Says that a store has no history.
 pub(crate) fn say_none(rt: &HostRuntime) -> Result<(), Failure> {
     let mut line = Shown::new(rt.alloc());
@@ -95,6 +76,10 @@ pub(crate) fn say_none(rt: &HostRuntime) -> Result<(), Failure> {
     line.end_line()?;
     write_text(rt, &line)
 }
+
+/// What is said of a store without a history where a mark is looked for.
+const NO_MARK: &str =
+    "the store has no history, and so not that of the mark: it is another store, or its history was removed; compare it with a back-up";
 
 /// Judges a whole store, and its history where it has one; else that is said. A mark may be looked for, which a store without a
 /// history has nowhere.
@@ -116,14 +101,17 @@ impl Work for CheckAll<'_> {
             Ok(contents) => contents,
             Err(failure) => return (archive.into_connection(), Err(failure)),
         };
-        match open_for(rt, archive, self.head) {
+        match open_history(rt, archive) {
             Ok(Opened::Noted(noted)) => {
                 let mut noted = noted;
                 let done = judge_history(rt, &mut noted, None, self.head, seals);
                 (noted.into_store().into_connection(), done)
             }
             Ok(Opened::Plain(archive)) => {
-                let said = say_none(rt);
+                let said = match self.head {
+                    Some(_) => Err(Failure::told(rt.alloc(), Status::BadData, NO_MARK)),
+                    None => say_none(rt),
+                };
                 (archive.into_connection(), said)
             }
             Err((archive, failure)) => (archive.into_connection(), Err(failure)),

@@ -74,12 +74,22 @@ fn know_volumes<A: Archives>(
 }
 
 /// Captures old mail, in a volume until it is full.
-#[derive(Drop)]
 struct ImportOld<'a> {
     author: Author<'a>,
     job: MailImport<'a>,
     rounds: ImportRounds,
     place: Place,
+}
+
+impl Drop for ImportOld<'_> {
+    fn drop(self) {
+        let ImportOld {
+            author: _,
+            job: _,
+            rounds: _,
+            place: _,
+        } = self;
+    }
 }
 
 impl ImportOld<'_> {
@@ -155,31 +165,6 @@ fn know_before<A: Archives>(
     }
 }
 
-/// Captures old mail in a round, in a place of a store or of a volume. What the volumes before have is noted of those from one on.
-fn import_round<'a, A: Archives>(
-    rt: &HostRuntime,
-    archives: &A,
-    store: &str,
-    work: ImportOld<'a>,
-    path: &str,
-    from: u32,
-) -> Result<Round<MailImport<'a>, ImportRounds>, Failure> {
-    let ImportOld {
-        author,
-        job,
-        rounds,
-        place,
-    } = work;
-    let rounds = know_before(rt, archives, store, &job, from, place.volume, rounds)?;
-    let work = ImportOld {
-        author,
-        job,
-        rounds,
-        place,
-    };
-    lend(rt, archives, path, work)
-}
-
 /// Captures old mail in a store that keeps a history, or in one volume after another of an archive whose volumes do.
 pub fn import<'a, A: Archives>(
     rt: &'a HostRuntime,
@@ -193,22 +178,17 @@ pub fn import<'a, A: Archives>(
     let mut from = 1;
     for round in 0..u64::MAX {
         let is_first = round == 0;
-        let (capturing, place) = place_for_import(
-            rt,
-            archives,
-            store,
-            told,
-            job.timing(),
-            is_first,
-        )?;
+        let timing = job.timing();
+        let (capturing, place) = place_for_import(rt, archives, store, told, timing, is_first)?;
+        let known = know_before(rt, archives, store, &job, from, place.volume, rounds)?;
         let author = Author::or_program(rt, told)?.in_volume(place.volume);
         let work = ImportOld {
             author,
             job,
-            rounds,
+            rounds: known,
             place,
         };
-        match import_round(rt, archives, store, work, capturing.path.as_str(), from)? {
+        match lend(rt, archives, capturing.path.as_str(), work)? {
             Round::Done => return Ok(()),
             Round::NextVolume(rest, so_far) => {
                 job = rest;

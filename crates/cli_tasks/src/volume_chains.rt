@@ -1,6 +1,7 @@
 //! That each volume of an archive goes on from the one before, which is judged before records of any can be destroyed.
 
 use crate::archives::{Archives, Work};
+use crate::volume_beginnings::mark_of;
 use crate::volume_checks::{Marks, alone_words, broken_words};
 use crate::volume_row::Volumes;
 use cli_console::{Failure, Status};
@@ -39,8 +40,11 @@ impl ReadLink<'_> {
             Ok(Opened::Noted(noted)) => {
                 let mut noted = noted;
                 let met = marks.look_in(rt, &mut noted);
-                let lacks_next = met.map(|met| met.lacks_next);
-                (noted.into_store().into_connection(), lacks_next)
+                let connection = noted.into_store().into_connection();
+                match met {
+                    Ok(met) => (connection, Ok(met.lacks_next)),
+                    Err(failure) => (connection, Err(failure)),
+                }
             }
             Ok(Opened::Plain(archive)) => {
                 (archive.into_connection(), Ok(marks.nowhere().lacks_next))
@@ -77,29 +81,9 @@ impl Work for ReadLink<'_> {
     }
 }
 
-/// How the mark begins after which the history of a volume began, where that names one. `BadData` where one of the volumes beside it may be
-/// of another archive: where it lacks the mark after which the next one began, or is not the first and names no mark.
-fn judge_link(rt: &HostRuntime, volume: u32, link: Link) -> Result<Option<Vec<u8>>, Failure> {
-    let Link {
-        beginning,
-        lacks_next,
-    } = link;
-    if lacks_next {
-        return Err(Failure::shown(Status::BadData, broken_words(rt.alloc(), volume)));
-    }
-    match beginning {
-        Beginning::Nowhere => Ok(None),
-        Beginning::After(mark) => Ok(Some(mark)),
-        Beginning::Alone => {
-            if volume > 1 {
-                return Err(Failure::shown(Status::BadData, alone_words(rt.alloc(), volume)));
-            }
-            Ok(None)
-        }
-    }
-}
-
-/// Finds that each volume goes on from the one before, as `check` does, from the last one down: of each that has a history. Else `BadData`.
+/// Finds that each volume goes on from the one before, as `check` does, from the last one down: of each that has a history. `BadData` where
+/// one of the volumes beside another may be of another archive: where it lacks the mark after which the next one began, or is not the first
+/// and names no mark.
 pub fn judge_chain<A: Archives>(
     rt: &HostRuntime,
     archives: &A,
@@ -109,10 +93,22 @@ pub fn judge_chain<A: Archives>(
     for later in 0..volumes.last {
         let volume = volumes.last - later;
         let work = ReadLink {
-            next: next.as_ref().map(|mark| mark.as_slice()),
+            next: mark_of(&next),
         };
-        let link = volumes.lend(rt, archives, volume, work)?;
-        next = judge_link(rt, volume, link)?;
+        let Link {
+            beginning,
+            lacks_next,
+        } = volumes.lend(rt, archives, volume, work)?;
+        if lacks_next {
+            return Err(Failure::shown(Status::BadData, broken_words(rt.alloc(), volume)));
+        }
+        next = match beginning {
+            Beginning::After(mark) => Some(mark),
+            Beginning::Alone if volume > 1 => {
+                return Err(Failure::shown(Status::BadData, alone_words(rt.alloc(), volume)));
+            }
+            Beginning::Nowhere | Beginning::Alone => None,
+        };
     }
     Ok(())
 }

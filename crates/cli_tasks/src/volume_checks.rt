@@ -2,9 +2,9 @@
 
 use crate::archives::{Archives, Work};
 use crate::histories::say_none;
-use crate::volume_row::{Volumes, failure_in, volume_line};
+use crate::volume_row::{Volumes, failure_in, named_in, volume_line};
 use class_plan::Plan;
-use cli_console::{Failure, Joined, Status, tell, told_now, write_text};
+use cli_console::{Failure, Joined, Status, told_now, write_text};
 use cli_history::{
     Beginning, StoredSeals, beginning_in, event_with_mark, is_same_plan, judge_history,
     open_history,
@@ -17,22 +17,22 @@ use std::alloc::{AllocError, Global};
 use tool_texts::{Shown, put};
 
 /// How a volume begins.
-#[derive(Drop)]
 struct Front {
     /// Whether it has another plan than the archive, where that is known.
     is_behind: bool,
     beginning: Beginning,
 }
 
-impl Front {
-    /// That of a volume that could not be read, of which nothing is said.
-    fn unread() -> Front {
-        Front {
-            is_behind: false,
-            beginning: Beginning::Nowhere,
-        }
+impl Drop for Front {
+    fn drop(self) {
+        let Front {
+            is_behind: _,
+            beginning: _,
+        } = self;
     }
+}
 
+impl Front {
     /// That of a store, by the plan of the archive, where that is known.
     fn of<S: Alter>(
         rt: &HostRuntime,
@@ -150,27 +150,7 @@ struct CheckVolume<'m> {
 }
 
 impl CheckVolume<'_> {
-    /// The same failure, which names the volume.
-    fn named(&self, rt: &HostRuntime, failure: Failure) -> Failure {
-        failure_in(rt, failure, self.volume)
-    }
-
-    /// Judges a history, and looks for the marks there.
-    fn judge_noted<S: Alter>(
-        &self,
-        rt: &HostRuntime,
-        noted: &mut NotedStore<S>,
-        seals: StoredSeals,
-    ) -> (Result<Met, Failure>, Result<(), Failure>) {
-        let met = self.marks.look_in(rt, noted);
-        let judged = judge_history(rt, noted, Some(self.volume), None, seals);
-        (
-            met.map_err(|failure| self.named(rt, failure)),
-            judged.map_err(|failure| self.named(rt, failure)),
-        )
-    }
-
-    /// Judges the history, where there is one.
+    /// Judges the history, where there is one, and looks for the marks there.
     fn judge<S: Alter>(
         &self,
         rt: &HostRuntime,
@@ -180,15 +160,18 @@ impl CheckVolume<'_> {
         match open_history(rt, archive) {
             Ok(Opened::Noted(noted)) => {
                 let mut noted = noted;
-                let (met, judged) = self.judge_noted(rt, &mut noted, seals);
-                (noted.into_store().into_connection(), met, judged)
+                let met = self.marks.look_in(rt, &mut noted);
+                let judged = judge_history(rt, &mut noted, Some(self.volume), None, seals);
+                let connection = noted.into_store().into_connection();
+                let met = named_in(rt, met, self.volume);
+                (connection, met, named_in(rt, judged, self.volume))
             }
             Ok(Opened::Plain(archive)) => {
                 let said = say_none(rt);
                 (archive.into_connection(), Ok(self.marks.nowhere()), said)
             }
             Err((archive, failure)) => {
-                let failure = self.named(rt, failure);
+                let failure = failure_in(rt, failure, self.volume);
                 (archive.into_connection(), Err(failure), Ok(()))
             }
         }
@@ -221,16 +204,22 @@ impl Work for CheckVolume<'_> {
 /// That a volume has not the plan of the archive.
 pub fn behind_words(alloc: Global, volume: u32) -> Result<Shown, AllocError> {
     let mut words = Shown::new(alloc);
-    put!(words; "volume " value(&volume)
-        ": its plan is not that of the archive, which is the plan of the last volume; plan --set gives it that one")?;
+    words.words("volume ")?;
+    words.value(&volume)?;
+    words.words(
+        ": its plan is not that of the archive, which is the plan of the last volume; plan --set gives it that one",
+    )?;
     Ok(words)
 }
 
 /// That the history of a volume does not go on from the one before.
 pub fn alone_words(alloc: Global, volume: u32) -> Result<Shown, AllocError> {
     let mut words = Shown::new(alloc);
-    put!(words; "volume " value(&volume)
-        ": its history does not name the mark of the volume before, so it may be that of another archive")?;
+    words.words("volume ")?;
+    words.value(&volume)?;
+    words.words(
+        ": its history does not name the mark of the volume before, so it may be that of another archive",
+    )?;
     Ok(words)
 }
 
@@ -254,12 +243,12 @@ fn met_line(alloc: Global, mark: &str, event: u32, volume: u32) -> Result<Shown,
 /// That no event of any volume has a mark.
 fn unmet_words(alloc: Global, mark: &str) -> Result<Shown, AllocError> {
     let mut words = Shown::new(alloc);
-    put!(words; value(&mark) ": no event of the histories of the volumes has this mark")?;
+    words.value(&mark)?;
+    words.words(": no event of the histories of the volumes has this mark")?;
     Ok(words)
 }
 
 /// What is found of the volumes so far.
-#[derive(Drop)]
 struct Checking<'h> {
     /// The plan of the archive; none where the last volume is damaged.
     plan: Option<Plan>,
@@ -271,6 +260,19 @@ struct Checking<'h> {
     is_met: bool,
     totals: Totals,
     joined: Joined,
+}
+
+impl Drop for Checking<'_> {
+    fn drop(self) {
+        let Checking {
+            plan: _,
+            unread: _,
+            head: _,
+            is_met: _,
+            totals: _,
+            joined: _,
+        } = self;
+    }
 }
 
 impl Checking<'_> {
@@ -300,7 +302,7 @@ impl Checking<'_> {
         }
     }
 
-    /// Reads how a volume begins.
+    /// Reads how a volume begins. Nothing is said of one that could not be read.
     fn front<A: Archives>(
         &mut self,
         rt: &HostRuntime,
@@ -312,23 +314,17 @@ impl Checking<'_> {
             plan: self.plan.as_ref(),
         };
         let read = volumes.lend(rt, archives, volume, work);
-        Ok(self.noted(read)?.unwrap_or(Front::unread()))
+        match self.noted(read)? {
+            Some(front) => Ok(front),
+            None => Ok(Front {
+                is_behind: false,
+                beginning: Beginning::Nowhere,
+            }),
+        }
     }
 
-    /// Says which event of a volume has the mark that is looked for, where one has it, and tells where that is missing after which the
-    /// next volume began.
-    fn take_met(&mut self, rt: &HostRuntime, volume: u32, met: Met) -> Result<(), Failure> {
-        if let (Some(mark), Some(event)) = (self.head, met.head) {
-            self.is_met = true;
-            write_text(rt, &met_line(rt.alloc(), mark, event, volume)?)?;
-        }
-        if met.lacks_next {
-            return self.refuse(rt, broken_words(rt.alloc(), volume));
-        }
-        Ok(())
-    }
-
-    /// Adds what was found of a volume.
+    /// Adds what was found of a volume. Says which event of it has the mark that is looked for, where one has it, and tells where that is
+    /// missing after which the next volume began.
     fn take(&mut self, rt: &HostRuntime, volume: u32, checked: Checked) -> Result<(), Failure> {
         let Checked {
             totals,
@@ -337,10 +333,18 @@ impl Checking<'_> {
         } = checked;
         self.totals.add(totals);
         self.add(rt, history)?;
-        match met {
-            Ok(met) => self.take_met(rt, volume, met),
-            Err(failure) => self.add(rt, Err(failure)),
+        let met = match met {
+            Ok(met) => met,
+            Err(failure) => return self.add(rt, Err(failure)),
+        };
+        if let (Some(mark), Some(event)) = (self.head, met.head) {
+            self.is_met = true;
+            write_text(rt, &met_line(rt.alloc(), mark, event, volume)?)?;
         }
+        if met.lacks_next {
+            return self.refuse(rt, broken_words(rt.alloc(), volume));
+        }
+        Ok(())
     }
 
     /// Checks a volume that begins so, before one whose history names this mark.
@@ -360,10 +364,11 @@ impl Checking<'_> {
         if volume > 1 && matches!(&front.beginning, Beginning::Alone) {
             self.refuse(rt, alone_words(rt.alloc(), volume))?;
         }
-        let marks = Marks {
-            head: self.head.map(|mark| mark.as_bytes()),
-            next,
+        let head = match self.head {
+            Some(mark) => Some(mark.as_bytes()),
+            None => None,
         };
+        let marks = Marks { head, next };
         match volumes.lend(rt, archives, volume, CheckVolume { volume, marks }) {
             Ok(checked) => self.take(rt, volume, checked),
             Err(failure) => self.add(rt, Err(failure)),
@@ -372,26 +377,14 @@ impl Checking<'_> {
 
     /// Writes what all volumes hold. `BadData` where something was found, and where no history has the mark, which is told. What was
     /// not read is told where nothing else was found.
-    fn end(self, rt: &HostRuntime, volumes: Volumes<'_>) -> Result<(), Failure> {
-        let Checking {
-            unread,
-            head,
-            is_met,
-            totals,
-            joined,
-            ..
-        } = self;
-        write_totals(rt, volumes.last, &totals)?;
-        let mut joined = joined;
-        match head {
-            Some(mark) if !is_met => {
-                tell(rt, &unmet_words(rt.alloc(), mark)?);
-                joined.refuse();
-            }
+    fn end(&mut self, rt: &HostRuntime, volumes: Volumes<'_>) -> Result<(), Failure> {
+        write_totals(rt, volumes.last, &self.totals)?;
+        match self.head {
+            Some(mark) if !self.is_met => self.refuse(rt, unmet_words(rt.alloc(), mark))?,
             _ => {}
         }
-        joined.end()?;
-        match unread {
+        self.joined.end()?;
+        match self.unread.take() {
             Some(failure) => Err(failure),
             None => Ok(()),
         }
