@@ -1,7 +1,7 @@
 //! `create --adopt`: a store that becomes the first volume of a new archive.
 
 use crate::archives::{Archives, Closed, Work, lend, not_made};
-use crate::rolling::no_volumes;
+use crate::rolling::{had, no_volumes};
 use cli_console::{Failure, Status};
 use cli_history::open_history;
 use cli_volumes::{
@@ -48,9 +48,10 @@ impl Work for MoveToFirst<'_> {
         archive: Store<S>,
     ) -> (Connection<S>, Result<(), Failure>) {
         let MoveToFirst { file, folder } = self;
-        let moved = move_to_first(rt, file, folder).map_err(|cause| not_moved(
-            rt, file, folder, cause,
-        ));
+        let moved = match move_to_first(rt, file, folder) {
+            Ok(()) => Ok(()),
+            Err(cause) => Err(not_moved(rt, file, folder, cause)),
+        };
         (archive.into_connection(), moved)
     }
 }
@@ -82,15 +83,14 @@ impl<A: Archives> AdoptingFolder for Adopting<'_, A> {
     ghost made = { λ _ _. Unit {0} };
 
     fn look(&mut self) -> Result<(), Failure> {
-        judge_new_folder(self.rt, self.folder).map_err(|cause| not_made(no_volumes(
-            self.rt,
-            self.folder,
-            cause,
-        )))
+        match judge_new_folder(self.rt, self.folder) {
+            Ok(()) => Ok(()),
+            Err(cause) => Err(not_made(no_volumes(self.rt, self.folder, cause))),
+        }
     }
 
     fn judge(&mut self) -> Result<(), Failure> {
-        judge_own_name(self.rt, self.file).map_err(|cause| no_volumes(self.rt, self.file, cause))?;
+        had(self.rt, self.file, judge_own_name(self.rt, self.file))?;
         match self.archives.lend(self.rt, self.file, OpenAll)? {
             (judged, Closed::Whole) => judged,
             _ => Err(Failure::at(
@@ -103,21 +103,17 @@ impl<A: Archives> AdoptingFolder for Adopting<'_, A> {
     }
 
     fn make(&mut self) -> Result<(), Failure> {
-        create_folder(self.rt, self.folder, self.size).map_err(|cause| no_volumes(
+        had(
             self.rt,
             self.folder,
-            cause,
-        ))
+            create_folder(self.rt, self.folder, self.size),
+        )
     }
 
     fn lock(&mut self) -> Result<(), Failure> {
-        match lock_folder(self.rt, self.folder) {
-            Ok(lock) => {
-                self.lock = Some(lock);
-                Ok(())
-            }
-            Err(cause) => Err(no_volumes(self.rt, self.folder, cause)),
-        }
+        let lock = had(self.rt, self.folder, lock_folder(self.rt, self.folder))?;
+        self.lock = Some(lock);
+        Ok(())
     }
 
     fn place(&mut self) -> Result<(), Failure> {
@@ -131,7 +127,7 @@ impl<A: Archives> AdoptingFolder for Adopting<'_, A> {
     }
 
     fn note(&mut self) -> Result<(), Failure> {
-        note_begun(self.rt, self.folder, 1).map_err(|cause| no_volumes(self.rt, self.folder, cause))
+        had(self.rt, self.folder, note_begun(self.rt, self.folder, 1))
     }
 
     fn discard(&mut self) {

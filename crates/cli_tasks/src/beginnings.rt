@@ -8,7 +8,7 @@ use record_noted::Opened;
 use record_store::Store;
 use sqlite::{Alter, Connection};
 use std::alloc::{AllocError, Global};
-use tool_texts::{Shown, put};
+use tool_texts::Shown;
 
 /// Begins the history of an archive. Answers how many events it begins with.
 #[derive(Drop)]
@@ -46,7 +46,8 @@ impl Work for BeginHistory<'_> {
 /// With how many events a history began.
 pub fn begun_line(alloc: Global, count: u64) -> Result<Shown, AllocError> {
     let mut line = Shown::new(alloc);
-    put!(line; "history begun events " value(&count))?;
+    line.words("history begun events ")?;
+    line.value(&count)?;
     line.end_line()?;
     Ok(line)
 }
@@ -100,7 +101,10 @@ pub fn reasons_line(
         Reasons::Optional => "reasons optional",
     })?;
     match number {
-        Some(number) => put!(line; " event " value(&number))?,
+        Some(number) => {
+            line.words(" event ")?;
+            line.value(&number)?;
+        }
         None => line.words(" already, and nothing is noted")?,
     }
     line.end_line()?;
@@ -145,7 +149,8 @@ impl Work for AcceptFound<'_> {
 /// In which event findings are accepted.
 pub fn accepted_line(alloc: Global, number: u32) -> Result<Shown, AllocError> {
     let mut line = Shown::new(alloc);
-    put!(line; "findings accepted event " value(&number))?;
+    line.words("findings accepted event ")?;
+    line.value(&number)?;
     line.end_line()?;
     Ok(line)
 }

@@ -294,13 +294,24 @@ pub(crate) fn filing_of(rules: &Option<NamedRules>) -> Option<Filing<'_>>
 }
 
 /// Delivers a message. What became of it is told once the archive is closed.
-#[derive(Drop)]
 pub struct DeliverOne<'a, 'e, A> {
     pub author: Author<'a>,
     pub rules: FilingRules<'a>,
     pub timing: Timing,
     pub message: Payload,
     pub earlier: Earlier<'e, A>,
+}
+
+impl<A: Drop> Drop for DeliverOne<'_, '_, A> {
+    fn drop(self) {
+        let DeliverOne {
+            author: _,
+            rules: _,
+            timing: _,
+            message: _,
+            earlier: _,
+        } = self;
+    }
 }
 
 impl<A: Archives> Work for DeliverOne<'_, '_, A> {
@@ -311,21 +322,21 @@ impl<A: Archives> Work for DeliverOne<'_, '_, A> {
         rt: &HostRuntime,
         archive: Store<S>,
     ) -> (Connection<S>, Result<Self::Answer, Failure>) {
-        let DeliverOne {
-            author,
-            rules,
-            timing,
-            message,
-            earlier,
-        } = self;
-        let timing = match earlier.timing_in(rt, &archive, timing) {
+        let timing = match self.earlier.timing_in(rt, &archive, self.timing) {
             Ok(timing) => timing,
             Err(failure) => return (archive.into_connection(), Ok(Err(failure.kept()))),
         };
-        let named = match rules.named(rt.alloc()) {
+        let named = match self.rules.named(rt.alloc()) {
             Ok(named) => named,
             Err(AllocError) => return (archive.into_connection(), Err(Failure::NoMemory)),
         };
+        let DeliverOne {
+            author,
+            rules,
+            timing: _,
+            message,
+            earlier: _,
+        } = self;
         let filing = filing_of(&named);
         let ledger = match open_ledger(rt, archive, &author, filing, Purpose::Capturing) {
             Ok(ledger) => ledger,
@@ -340,13 +351,24 @@ impl<A: Archives> Work for DeliverOne<'_, '_, A> {
 }
 
 /// Captures the new messages of a Maildir, in a volume until it is full.
-#[derive(Drop)]
 pub struct TakeNew<'a, 'e, A> {
     pub author: Author<'a>,
     pub job: Intake<'a>,
     pub rounds: Rounds,
     pub place: Place,
     pub earlier: Earlier<'e, A>,
+}
+
+impl<A: Drop> Drop for TakeNew<'_, '_, A> {
+    fn drop(self) {
+        let TakeNew {
+            author: _,
+            job: _,
+            rounds: _,
+            place: _,
+            earlier: _,
+        } = self;
+    }
 }
 
 impl<'a, A: Archives> Work for TakeNew<'a, '_, A> {
@@ -357,21 +379,21 @@ impl<'a, A: Archives> Work for TakeNew<'a, '_, A> {
         rt: &HostRuntime,
         archive: Store<S>,
     ) -> (Connection<S>, Result<Round<Intake<'a>, Rounds>, Failure>) {
+        let timing = match self.earlier.timing_in(rt, &archive, self.job.timing()) {
+            Ok(timing) => timing,
+            Err(failure) => return (archive.into_connection(), Err(failure)),
+        };
+        let named = match self.job.rules().named(rt.alloc()) {
+            Ok(named) => named,
+            Err(AllocError) => return (archive.into_connection(), Err(Failure::NoMemory)),
+        };
         let TakeNew {
             author,
             job,
             rounds,
             place,
-            earlier,
+            earlier: _,
         } = self;
-        let timing = match earlier.timing_in(rt, &archive, job.timing()) {
-            Ok(timing) => timing,
-            Err(failure) => return (archive.into_connection(), Err(failure)),
-        };
-        let named = match job.rules().named(rt.alloc()) {
-            Ok(named) => named,
-            Err(AllocError) => return (archive.into_connection(), Err(Failure::NoMemory)),
-        };
         let filing = filing_of(&named);
         let ledger = match open_ledger(rt, archive, &author, filing, Purpose::Capturing) {
             Ok(ledger) => ledger,

@@ -89,6 +89,19 @@ pub fn settle<A: Archives, T: Drop>(
     settled
 }
 
+/// Does something with a draft. How it is closed shows when it is read back.
+pub fn lend_draft<A: Archives, W: Work>(
+    rt: &HostRuntime,
+    archives: &A,
+    draft: &str,
+    work: W,
+) -> Result<W::Answer, Failure> {
+    match archives.lend(rt, draft, work) {
+        Ok((done, _closed)) => done,
+        Err(failure) => Err(not_made(failure)),
+    }
+}
+
 /// Begins the history of a draft.
 pub fn begin_history<A: Archives>(
     rt: &HostRuntime,
@@ -96,10 +109,7 @@ pub fn begin_history<A: Archives>(
     draft: &str,
     author: Author<'_>,
 ) -> Result<(), Failure> {
-    let (begun, _closed) = archives
-        .lend(rt, draft, BeginHistory(author))
-        .map_err(not_made)?;
-    begun?;
+    lend_draft(rt, archives, draft, BeginHistory(author))?;
     Ok(())
 }
 
@@ -112,11 +122,11 @@ pub fn make<A: Archives>(
     author: Author<'_>,
 ) -> Result<(), Failure> {
     let draft = begin(rt, archives, path, plan)?;
-    let found = begin_history(rt, archives, draft.as_str(), author).and_then(|()| read_back(
-        rt,
-        archives,
-        draft.as_str(),
-    ));
-    settle(rt, archives, draft.as_str(), path, found)?;
+    let place = draft.as_str();
+    let found = match begin_history(rt, archives, place, author) {
+        Ok(()) => read_back(rt, archives, place),
+        Err(failure) => Err(failure),
+    };
+    settle(rt, archives, place, path, found)?;
     Ok(())
 }

@@ -1,10 +1,10 @@
 //! Archives of volumes that begin, and volumes that do.
 
-ghost use Rattle.std.specs.Prelude.{Some, IfErr, IfOk};
+ghost use Rattle.std.specs.Prelude.{◌≡◌, Ok, Some, IfErr, IfOk};
 ghost use Rattle.cli_tasks.specs.Places.{IsForImport, IsIn, IsOfMaking, IsPlaceAsItIs, IsPlaceIn};
 
 use crate::archives::{Archives, Work, lend, not_made};
-use crate::drafts::{begin, begin_history, read_back};
+use crate::drafts::{begin, begin_history, lend_draft, read_back};
 use crate::volume_days::Earlier;
 use crate::volume_row::named_in;
 use class_plan::Plan;
@@ -43,9 +43,19 @@ pub fn no_volumes(rt: &HostRuntime, folder: &str, cause: NoVolumes) -> Failure {
     Failure::at(rt.alloc(), status, folder, &cause)
 }
 
+/// What was got of the volumes of a folder. The failure is that of volumes that cannot be had.
+pub fn had<T: Drop>(rt: &HostRuntime, folder: &str, got: Result<T, NoVolumes>) -> Result<T, Failure>
+    ensures { IfOk result (λ x. got ≡ Ok x) }
+{
+    match got {
+        Ok(x) => Ok(x),
+        Err(cause) => Err(no_volumes(rt, folder, cause)),
+    }
+}
+
 /// Reads the plan of an archive.
 #[derive(Drop)]
-struct ReadPlan;
+pub struct ReadPlan;
 
 impl Work for ReadPlan {
     type Answer = Plan;
@@ -55,14 +65,12 @@ impl Work for ReadPlan {
         _rt: &HostRuntime,
         archive: Store<S>,
     ) -> (Connection<S>, Result<Plan, Failure>) {
-        let plan = archive.plan().copy().map_err(Failure::from);
+        let plan = match archive.plan().copy() {
+            Ok(plan) => Ok(plan),
+            Err(AllocError) => Err(Failure::NoMemory),
+        };
         (archive.into_connection(), plan)
     }
-}
-
-/// The plan of the archive at a path.
-pub fn plan_at<A: Archives>(rt: &HostRuntime, archives: &A, path: &str) -> Result<Plan, Failure> {
-    lend(rt, archives, path, ReadPlan)
 }
 
 /// How a history ends.
@@ -83,11 +91,19 @@ struct InheritedHistory {
 }
 
 /// What a volume takes over from the one before it.
-#[derive(Drop)]
 struct Inherited {
     plan: Plan,
     /// None where the one before has no history.
     history: Option<InheritedHistory>,
+}
+
+impl Drop for Inherited {
+    fn drop(self) {
+        let Inherited {
+            plan: _,
+            history: _,
+        } = self;
+    }
 }
 
 /// How a history ends.
@@ -115,30 +131,6 @@ fn ending_of<S: Alter>(
     }
 }
 
-/// What is taken over from a volume whose history ends so, if it has one. `TryAgain` where the clock is wrong, by its days too, or by
-/// those of an earlier volume where it has no record.
-fn inherited_from<S: Alter, A: Archives>(
-    rt: &HostRuntime,
-    volume: u32,
-    archive: &mut Store<S>,
-    ending: Option<Ending>,
-    earlier: &Earlier<'_, A>,
-    timing: Timing,
-) -> Result<Inherited, Failure> {
-    let timing = earlier.timing_in(rt, archive, timing)?;
-    moment_in(rt, archive, timing)?;
-    Ok(Inherited {
-        plan: archive.plan().copy()?,
-        history: match ending {
-            Some(ending) => Some(InheritedHistory {
-                ending,
-                titles: named_in(rt, Titles::of(rt, archive), volume)?,
-            }),
-            None => None,
-        },
-    })
-}
-
 /// Reads what the next volume takes over from the last one, where a message may be captured now. In the next volume there is no
 /// record yet by whose day the clock could be judged. What is bad in the history of the last one is told with its number.
 #[derive(Drop)]
@@ -146,6 +138,31 @@ struct ReadLast<'e, A> {
     volume: u32,
     timing: Timing,
     earlier: Earlier<'e, A>,
+}
+
+impl<A: Archives> ReadLast<'_, A> {
+    /// What is taken over from a volume whose history ends so, if it has one. `TryAgain` where the clock is wrong, by its days too, or by
+    /// those of an earlier volume where it has no record.
+    fn inherited<S: Alter>(
+        &self,
+        rt: &HostRuntime,
+        archive: &mut Store<S>,
+        ending: Option<Ending>,
+    ) -> Result<Inherited, Failure> {
+        let timing = self.earlier.timing_in(rt, archive, self.timing)?;
+        moment_in(rt, archive, timing)?;
+        let history = match ending {
+            Some(ending) => {
+                let titles = named_in(rt, Titles::of(rt, archive), self.volume)?;
+                Some(InheritedHistory { ending, titles })
+            }
+            None => None,
+        };
+        Ok(Inherited {
+            plan: archive.plan().copy()?,
+            history,
+        })
+    }
 }
 
 impl<A: Archives> Work for ReadLast<'_, A> {
@@ -156,21 +173,12 @@ impl<A: Archives> Work for ReadLast<'_, A> {
         rt: &HostRuntime,
         archive: Store<S>,
     ) -> (Connection<S>, Result<Inherited, Failure>) {
-        let ReadLast {
-            volume,
-            timing,
-            earlier,
-        } = self;
         let (archive, ending) = ending_of(rt, archive);
         let mut archive = archive;
-        let read = named_in(rt, ending, volume).and_then(|ending| inherited_from(
-            rt,
-            volume,
-            &mut archive,
-            ending,
-            &earlier,
-            timing,
-        ));
+        let read = match named_in(rt, ending, self.volume) {
+            Ok(ending) => self.inherited(rt, &mut archive, ending),
+            Err(failure) => Err(failure),
+        };
         (archive.into_connection(), read)
     }
 }
@@ -192,7 +200,10 @@ fn take_titles<S: Alter>(
     match open_noted(rt, archive) {
         Ok(noted) => {
             let (archive, noted) = note_titles(rt, noted, author, listed.as_slice());
-            (archive, noted.map(|_| ()))
+            match noted {
+                Ok(_) => (archive, Ok(())),
+                Err(failure) => (archive, Err(failure)),
+            }
         }
         Err((archive, failure)) => (archive, Err(failure)),
     }
@@ -207,7 +218,10 @@ fn take_reasons<S: Alter>(
     match open_noted(rt, archive) {
         Ok(noted) => {
             let (archive, noted) = note_reasons(rt, noted, author, Reasons::Required);
-            (archive, noted.map(|_| ()))
+            match noted {
+                Ok(_) => (archive, Ok(())),
+                Err(failure) => (archive, Err(failure)),
+            }
         }
         Err((archive, failure)) => (archive, Err(failure)),
     }
@@ -258,25 +272,6 @@ impl Work for BeginAfter<'_, '_> {
     }
 }
 
-/// Begins the history of a draft after that of the volume before it, where that has one.
-fn go_on_from<A: Archives>(
-    rt: &HostRuntime,
-    archives: &A,
-    draft: &str,
-    before: &Inherited,
-    author: Author<'_>,
-) -> Result<(), Failure> {
-    let Some(history) = &before.history else {
-        return Ok(());
-    };
-    let work = BeginAfter {
-        before: history,
-        author,
-    };
-    let (begun, _closed) = archives.lend(rt, draft, work).map_err(not_made)?;
-    begun
-}
-
 /// Reads the whole history of an archive, where it has one. `BadData` where something stands against an event.
 #[derive(Drop)]
 struct ReadHistory;
@@ -292,8 +287,12 @@ impl Work for ReadHistory {
         match open_history(rt, archive) {
             Ok(Opened::Noted(noted)) => {
                 let mut noted = noted;
-                let read = Lines::of(rt, &mut noted, None).map(|_| ());
-                (noted.into_store().into_connection(), read)
+                let read = Lines::of(rt, &mut noted, None);
+                let connection = noted.into_store().into_connection();
+                match read {
+                    Ok(_) => (connection, Ok(())),
+                    Err(failure) => (connection, Err(failure)),
+                }
             }
             Ok(Opened::Plain(archive)) => (archive.into_connection(), Ok(())),
             Err((archive, failure)) => (archive.into_connection(), Err(failure)),
@@ -302,7 +301,7 @@ impl Work for ReadHistory {
 }
 
 /// Gives the draft of a volume its name, once it is read back as a whole, with its history. That begins with its plan, and goes on
-/// from the volume before, where there is one.
+/// from the volume before, where there is one; where that has no history, there is none.
 fn finish_volume<A: Archives>(
     rt: &HostRuntime,
     archives: &A,
@@ -313,13 +312,16 @@ fn finish_volume<A: Archives>(
     author: Author<'_>,
 ) -> Result<(), Failure> {
     match before {
-        Some(before) => go_on_from(rt, archives, draft, before, author)?,
+        Some(volume) => {
+            if let Some(before) = &volume.history {
+                lend_draft(rt, archives, draft, BeginAfter { before, author })?;
+            }
+        }
         None => begin_history(rt, archives, draft, author)?,
     }
-    let (read, _closed) = archives.lend(rt, draft, ReadHistory).map_err(not_made)?;
-    read?;
+    lend_draft(rt, archives, draft, ReadHistory)?;
     read_back(rt, archives, draft)?;
-    place_volume(rt, folder, draft, path).map_err(|cause| no_volumes(rt, folder, cause))
+    had(rt, folder, place_volume(rt, folder, draft, path))
 }
 
 /// Makes a volume with a plan, in which nothing is captured. The caller has the lock of the folder. Where that fails, nothing of
@@ -333,7 +335,7 @@ fn make_volume<A: Archives>(
     before: Option<&Inherited>,
     author: Author<'_>,
 ) -> Result<(), Failure> {
-    clear_draft(rt, folder, volume).map_err(|cause| no_volumes(rt, folder, cause))?;
+    had(rt, folder, clear_draft(rt, folder, volume))?;
     let path = path_of(rt.alloc(), folder, volume)?;
     let draft = begin(rt, archives, path.as_str(), plan)?;
     let path = path.as_str();
@@ -342,15 +344,6 @@ fn make_volume<A: Archives>(
         archives.remove(rt, draft.as_str());
     }
     made
-}
-
-/// Ends what began a folder: notes its first volume, or, where there is none, removes the folder.
-fn settle_folder(rt: &HostRuntime, folder: &str, made: Result<(), Failure>) -> Result<(), Failure> {
-    if made.is_err() {
-        remove_folder(rt, folder)?;
-        return made;
-    }
-    note_begun(rt, folder, 1).map_err(|cause| no_volumes(rt, folder, cause))
 }
 
 /// Begins a folder for volumes of a size, in octets, with its first one. Where that fails, the folder is removed.
@@ -362,10 +355,15 @@ fn begin_folder<A: Archives>(
     plan: Plan,
     author: Author<'_>,
 ) -> Result<(), Failure> {
-    create_folder(rt, folder, size).map_err(|cause| no_volumes(rt, folder, cause))?;
-    let _lock = lock_folder(rt, folder).map_err(|cause| no_volumes(rt, folder, cause))?;
-    let made = make_volume(rt, archives, folder, 1, plan, None, author);
-    settle_folder(rt, folder, made)
+    had(rt, folder, create_folder(rt, folder, size))?;
+    let _lock = had(rt, folder, lock_folder(rt, folder))?;
+    match make_volume(rt, archives, folder, 1, plan, None, author) {
+        Ok(()) => had(rt, folder, note_begun(rt, folder, 1)),
+        Err(failure) => {
+            remove_folder(rt, folder)?;
+            Err(failure)
+        }
+    }
 }
 
 /// Makes an archive of volumes of a size, in octets, with a plan, in a folder at a path where nothing is. `CannotMake` where something is,
@@ -410,11 +408,6 @@ impl<A: Archives> Folder<'_, A> {
             size: row.sheet.size,
         })
     }
-
-    /// The failure of volumes that cannot be had.
-    fn failure(&self, cause: NoVolumes) -> Failure {
-        no_volumes(self.rt, self.path, cause)
-    }
 }
 
 impl<A: Archives> VolumeFolder for Folder<'_, A> {
@@ -423,17 +416,13 @@ impl<A: Archives> VolumeFolder for Folder<'_, A> {
     ghost made = { λ _ _. Unit {0} };
 
     fn look(&mut self) -> Result<Seen, Failure> {
-        self.seen().map_err(|cause| self.failure(cause))
+        had(self.rt, self.path, self.seen())
     }
 
     fn lock(&mut self) -> Result<(), Failure> {
-        match lock_folder(self.rt, self.path) {
-            Ok(lock) => {
-                self.lock = Some(lock);
-                Ok(())
-            }
-            Err(cause) => Err(self.failure(cause)),
-        }
+        let lock = had(self.rt, self.path, lock_folder(self.rt, self.path))?;
+        self.lock = Some(lock);
+        Ok(())
     }
 
     fn begin(&mut self, volume: u32) -> Result<(), Failure> {
@@ -444,8 +433,10 @@ impl<A: Archives> VolumeFolder for Folder<'_, A> {
             timing: self.timing,
             earlier: Earlier::of(self.archives, self.path, Some(last)),
         };
-        let path = path_of(rt.alloc(), self.path, last)?;
-        let before = lend(rt, self.archives, path.as_str(), work)?;
+        let before = {
+            let path = path_of(rt.alloc(), self.path, last)?;
+            lend(rt, self.archives, path.as_str(), work)?
+        };
         let plan = before.plan.copy()?;
         let author = Author::or_program(rt, self.told)?;
         make_volume(
@@ -460,7 +451,7 @@ impl<A: Archives> VolumeFolder for Folder<'_, A> {
     }
 
     fn note(&mut self, volume: u32) -> Result<(), Failure> {
-        note_begun(self.rt, self.path, volume).map_err(|cause| self.failure(cause))
+        had(self.rt, self.path, note_begun(self.rt, self.path, volume))
     }
 
     fn unlock(&mut self) {
@@ -538,8 +529,8 @@ pub fn place_for_intake<A: Archives>(
 
 /// How many octets a volume has, and over how many a volume is over its size.
 fn measure(rt: &HostRuntime, folder: &str, volume: u32) -> Result<(u64, u64), Failure> {
-    let row = row_in(rt, folder).map_err(|cause| no_volumes(rt, folder, cause))?;
-    let octets = octets_of(rt, folder, volume).map_err(|cause| no_volumes(rt, folder, cause))?;
+    let row = had(rt, folder, row_in(rt, folder))?;
+    let octets = had(rt, folder, octets_of(rt, folder, volume))?;
     Ok((octets, row.sheet.size))
 }
 

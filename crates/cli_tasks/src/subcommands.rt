@@ -40,26 +40,11 @@ use command_lines::archives::{
 use record_store::Store;
 use sqlite::{Alter, Connection};
 
-/// Writes the plan.
-#[derive(Drop)]
-pub(crate) struct WritePlan;
-
-impl Work for WritePlan {
-    type Answer = ();
-
-    fn work<S: Alter>(
-        self,
-        rt: &HostRuntime,
-        archive: Store<S>,
-    ) -> (Connection<S>, Result<(), Failure>) {
-        let done = write_plan(rt, archive.plan());
-        (archive.into_connection(), done)
-    }
-}
-
 /// What is read of a whole archive.
 #[derive(Drop)]
 pub(crate) enum Survey {
+    /// The plan.
+    Plan,
     /// The cases, perhaps as JSON.
     Holds { is_json: bool },
     /// The records whose messages were captured twice.
@@ -78,6 +63,7 @@ impl Work for Survey {
     ) -> (Connection<S>, Result<(), Failure>) {
         let mut archive = archive;
         let done = match self {
+            Survey::Plan => write_plan(rt, archive.plan()),
             Survey::Holds { is_json } => write_cases(rt, &mut archive, is_json),
             Survey::Twice(listing) => write_twice(rt, &mut archive, listing),
             Survey::Titles { is_json } => write_titles(rt, &mut archive, is_json),
@@ -199,7 +185,6 @@ fn deliver<'a, A: Archives>(
     is_as_is: bool,
     told: &Attribution<'a>,
 ) -> Result<(), Failure> {
-    let author = Author::or_program(rt, told)?;
     let timing = Timing::new(rt, filing.moment)?;
     let message = read_message(rt)?;
     if !is_as_is {
@@ -208,10 +193,11 @@ fn deliver<'a, A: Archives>(
     let undecoded = undecoded_in(rt.alloc(), &message);
     let rules = FilingRules::read_for_delivery(rt, filing)?;
     rules.tell_unused(rt);
-    let place = place_for_capture(rt, archives, store, told, timing).map_err(
-        |failure| failure.kept(),
-    )?;
-    let Capturing { path, volume } = place;
+    let Capturing { path, volume } = match place_for_capture(rt, archives, store, told, timing) {
+        Ok(place) => place,
+        Err(failure) => return Err(failure.kept()),
+    };
+    let author = Author::or_program(rt, told)?;
     let path = path.as_str();
     let work = DeliverOne {
         author: author.in_volume(volume),
@@ -220,9 +206,10 @@ fn deliver<'a, A: Archives>(
         message,
         earlier: Earlier::of(archives, store, volume),
     };
-    let (done, closed) = archives
-        .lend(rt, path, work)
-        .map_err(|failure| failure.kept())?;
+    let (done, closed) = match archives.lend(rt, path, work) {
+        Ok(lent) => lent,
+        Err(failure) => return Err(failure.kept()),
+    };
     let delivery = settled(rt, path, done, closed)??;
     report_delivery(rt, volume, &delivery, filing.limit, undecoded.as_slice())
 }
@@ -236,9 +223,9 @@ fn take_round<'a, A: Archives>(
     rounds: Rounds,
     told: &Attribution<'a>,
 ) -> Result<Round<Intake<'a>, Rounds>, Failure> {
-    let author = Author::or_program(rt, told)?;
     let capturing = place_for_intake(rt, archives, store, told, &job)?;
     let place = capturing.place(rt, store)?;
+    let author = Author::or_program(rt, told)?;
     let work = TakeNew {
         author: author.in_volume(place.volume),
         job,
@@ -283,11 +270,10 @@ fn intake<'a, A: Archives>(
     telling: Telling,
     told: &Attribution<'a>,
 ) -> Result<(), Failure> {
-    take_from(rt, archives, store, maildir, filing, telling, told).map_err(|failure| logged(
-        rt,
-        telling.has_times,
-        failure,
-    ))
+    match take_from(rt, archives, store, maildir, filing, telling, told) {
+        Ok(()) => Ok(()),
+        Err(failure) => Err(logged(rt, telling.has_times, failure)),
+    }
 }
 
 /// Writes the message of a record once the archive is closed, or the fields of its header.
@@ -513,7 +499,7 @@ fn execute_at<'a, A: Archives>(
     match command {
         Command::Create { plan, size } => create(rt, archives, store, plan, size, told),
         Command::Adopt { file, size } => adopt(rt, archives, file, store, size),
-        Command::WritePlan => lend(rt, archives, store, WritePlan),
+        Command::WritePlan => lend(rt, archives, store, Survey::Plan),
         Command::ReplacePlan { plan, is_agreed } => {
             replace_plan(rt, archives, store, plan, is_agreed, told)
         }

@@ -165,8 +165,8 @@ fn begin_in<A: Archives>(
     Ok(begun)
 }
 
-/// The mark of a volume before, where there is one.
-fn mark_of(before: &Option<Vec<u8>>) -> Option<&[u8]> {
+/// The mark of a volume beside another one, where there is one.
+pub fn mark_of(before: &Option<Vec<u8>>) -> Option<&[u8]> {
     match before {
         Some(mark) => Some(mark.as_slice()),
         None => None,
@@ -229,21 +229,8 @@ pub fn begin<A: Archives>(
     if_any(rt.alloc(), is_any, Status::CannotMake, words)
 }
 
-/// Notes in the history of a volume whether reasons are required, and says in which event, or that it is so already.
-fn note_reasons_in<A: Archives>(
-    rt: &HostRuntime,
-    archives: &A,
-    volumes: Volumes<'_>,
-    volume: u32,
-    reasons: Reasons,
-    told: &Attribution<'_>,
-) -> Result<(), Failure> {
-    let author = author_in(rt, told, volume)?;
-    let number = volumes.lend(rt, archives, volume, NoteReasons { author, reasons })?;
-    write_line_in(rt, volume, reasons_line(rt.alloc(), reasons, number))
-}
-
-/// Notes in the history of each volume whether reasons are required, from the last one down.
+/// Notes in the history of each volume whether reasons are required, from the last one down, and says in which event, or that it is so
+/// already.
 fn note_reasons_in_each<A: Archives>(
     rt: &HostRuntime,
     archives: &A,
@@ -252,7 +239,10 @@ fn note_reasons_in_each<A: Archives>(
     told: &Attribution<'_>,
 ) -> Result<(), Failure> {
     for later in 0..volumes.last {
-        note_reasons_in(rt, archives, volumes, volumes.last - later, reasons, told)?;
+        let volume = volumes.last - later;
+        let author = author_in(rt, told, volume)?;
+        let number = volumes.lend(rt, archives, volume, NoteReasons { author, reasons })?;
+        write_line_in(rt, volume, reasons_line(rt.alloc(), reasons, number))?;
     }
     Ok(())
 }

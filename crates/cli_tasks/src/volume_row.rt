@@ -7,8 +7,8 @@ ghost use Rattle.cli_tasks.specs.Commands.{IsTold};
 ghost use Rattle.cli_tasks.specs.Places.{IsPathOf, is_of_output};
 ghost use Rattle.cli_tasks.specs.Works.{InVolume};
 
-use crate::archives::{Archives, Work, settled};
-use crate::rolling::{no_volumes, plan_at};
+use crate::archives::{Archives, Work, lend, settled};
+use crate::rolling::{ReadPlan, no_volumes};
 use crate::volume_numbers::volume_of_record;
 use class_plan::Plan;
 use cli_console::{Failure, Status};
@@ -16,7 +16,7 @@ use cli_history::Author;
 use cli_volumes::{path_of, row_in};
 use command_lines::archives::{Attribution, TypedNumber};
 use std::alloc::{AllocError, Global};
-use tool_texts::{Shown, put};
+use tool_texts::Shown;
 
 /// The volumes of an archive in a folder.
 #[derive(Clone, Copy)]
@@ -129,14 +129,15 @@ impl<'a> Volumes<'a> {
     /// The plan of the archive, which is that of its last volume.
     pub fn plan<A: Archives>(&self, rt: &HostRuntime, archives: &A) -> Result<Plan, Failure> {
         let path = path_of(rt.alloc(), self.folder, self.last)?;
-        plan_at(rt, archives, path.as_str())
+        lend(rt, archives, path.as_str(), ReadPlan)
     }
 }
 
 /// The line before what is said of a volume.
 pub fn volume_line(alloc: Global, volume: u32) -> Result<Shown, AllocError> {
     let mut line = Shown::new(alloc);
-    put!(line; "volume " value(&volume))?;
+    line.words("volume ")?;
+    line.value(&volume)?;
     line.end_line()?;
     Ok(line)
 }

@@ -219,28 +219,8 @@ pub fn set_plan<A: Archives>(
     not_cut_off(rt, replaced)
 }
 
-/// Gives classes the titles of a text in a volume, and writes which have another one now, behind a line with its number. Answers whether
-/// one has.
-fn give_titles_in<A: Archives>(
-    rt: &HostRuntime,
-    archives: &A,
-    volumes: Volumes<'_>,
-    volume: u32,
-    path: &str,
-    text: &[u8],
-    told: &Attribution<'_>,
-) -> Result<bool, Failure> {
-    let author = author_in(rt, told, volume)?;
-    let lines = volumes.lend(rt, archives, volume, SetTitles { author, path, text })?;
-    if lines.as_str().is_empty() {
-        return Ok(false);
-    }
-    write_text(rt, &volume_line(rt.alloc(), volume)?)?;
-    write_text(rt, &lines)?;
-    Ok(true)
-}
-
-/// Gives classes the titles of a text in each volume, from the last one down. Answers whether one has another title now.
+/// Gives classes the titles of a text in each volume, from the last one down, and writes which have another one now, behind a line with its
+/// number. Answers whether one has.
 fn give_titles_in_each<A: Archives>(
     rt: &HostRuntime,
     archives: &A,
@@ -252,8 +232,13 @@ fn give_titles_in_each<A: Archives>(
     let mut is_any = false;
     for later in 0..volumes.last {
         let volume = volumes.last - later;
-        let is_new = give_titles_in(rt, archives, volumes, volume, path, text, told)?;
-        is_any |= is_new;
+        let author = author_in(rt, told, volume)?;
+        let lines = volumes.lend(rt, archives, volume, SetTitles { author, path, text })?;
+        if !lines.as_str().is_empty() {
+            write_text(rt, &volume_line(rt.alloc(), volume)?)?;
+            write_text(rt, &lines)?;
+            is_any = true;
+        }
     }
     Ok(is_any)
 }

@@ -4,7 +4,7 @@ ghost use Rattle.std.specs.Prelude.{OnOk};
 ghost use Rattle.cli_tasks.specs.Volumes.{DoesOver, DoesWithEach, DoesWithHistories};
 
 use crate::archives::{Archives, lend};
-use crate::subcommands::{CheckRules, Survey, WritePlan, show, why};
+use crate::subcommands::{CheckRules, Survey, show, why};
 use crate::volume_beginnings::{accept_found, begin, require_reasons};
 use crate::volume_changes::{change_holds, release_all};
 use crate::volume_checks::check;
@@ -123,7 +123,7 @@ pub fn execute_over<A: Archives>(
 {
     let volumes = Volumes::of(rt, folder)?;
     match command {
-        Command::WritePlan => volumes.lend_last(rt, archives, WritePlan),
+        Command::WritePlan => volumes.lend_last(rt, archives, Survey::Plan),
         Command::WriteTitles { is_json } => {
             volumes.lend_last(rt, archives, Survey::Titles { is_json })
         }
