@@ -74,22 +74,12 @@ fn know_volumes<A: Archives>(
 }
 
 /// Captures old mail, in a volume until it is full.
+#[derive(Drop)]
 struct ImportOld<'a> {
     author: Author<'a>,
     job: MailImport<'a>,
     rounds: ImportRounds,
     place: Place,
-}
-
-impl Drop for ImportOld<'_> {
-    fn drop(self) {
-        let ImportOld {
-            author: _,
-            job: _,
-            rounds: _,
-            place: _,
-        } = self;
-    }
 }
 
 impl ImportOld<'_> {
