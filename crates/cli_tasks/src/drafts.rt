@@ -22,8 +22,10 @@ pub fn begin<A: Archives>(
 ) -> Result<String, Failure>
     ensures { IfOk result (λ draft. string_bytes draft ≡ draft_at path.now) }
 {
-    let draft = archives.create(rt, path, plan).map_err(not_made)?;
-    Ok(draft)
+    match archives.create(rt, path, plan) {
+        Ok(draft) => Ok(draft),
+        Err(failure) => Err(not_made(failure)),
+    }
 }
 
 /// Sums up an archive.
@@ -68,8 +70,10 @@ fn place<A: Archives, T: Drop>(
     ensures { IfOk result (λ x. found ≡ Ok x) }
 {
     let found = found?;
-    archives.give_place(rt, draft, path).map_err(not_made)?;
-    Ok(found)
+    match archives.give_place(rt, draft, path) {
+        Ok(()) => Ok(found),
+        Err(failure) => Err(not_made(failure)),
+    }
 }
 
 /// The same. Where it was not found whole, or has no place there, it is removed.

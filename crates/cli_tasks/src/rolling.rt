@@ -504,7 +504,7 @@ pub fn place_for_capture<A: Archives>(
 fn place_of_last(rt: &HostRuntime, folder: &str) -> Result<Capturing, Failure>
     ensures { IfOk result (IsIn folder.now) }
 {
-    let row = row_in(rt, folder).map_err(|cause| no_volumes(rt, folder, cause))?;
+    let row = had(rt, folder, row_in(rt, folder))?;
     Ok(Capturing {
         path: path_of(rt.alloc(), folder, row.last)?,
         volume: Some(row.last),

@@ -25,7 +25,7 @@ ghost use Rattle.cli_tasks.specs.Works.{OverVolumes};
 
 use crate::archives::{Archives, Work};
 use crate::beginnings::{NoteReasons, accepted_line, begun_line, reasons_line};
-use crate::rolling::no_volumes;
+use crate::rolling::had;
 use crate::volume_row::{Volumes, author_in, volume_line};
 use crate::volume_settings::not_cut_off;
 use crate::volume_soundness::{judge_beginnings, judge_histories};
@@ -220,7 +220,7 @@ pub fn begin<A: Archives>(
 {
     let author = Author::of(rt, told)?;
     author.named(rt)?;
-    let _lock = lock_folder(rt, folder).map_err(|cause| no_volumes(rt, folder, cause))?;
+    let _lock = had(rt, folder, lock_folder(rt, folder))?;
     let volumes = Volumes::of(rt, folder)?;
     judge_beginnings(rt, archives, volumes)?;
     let begun = begin_in_each(rt, archives, volumes, told);
@@ -262,7 +262,7 @@ pub fn require_reasons<A: Archives>(
 {
     let author = Author::of(rt, told)?;
     author.named(rt)?;
-    let _lock = lock_folder(rt, folder).map_err(|cause| no_volumes(rt, folder, cause))?;
+    let _lock = had(rt, folder, lock_folder(rt, folder))?;
     let volumes = Volumes::of(rt, folder)?;
     judge_histories(rt, archives, volumes)?;
     let noted = note_reasons_in_each(rt, archives, volumes, reasons, told);

@@ -7,7 +7,7 @@ ghost use Rattle.cli_tasks.specs.Works.{EachVolume, OverVolumes};
 
 use crate::archives::{Archives, not_made};
 use crate::copy::{Copying, Damage, Paths};
-use crate::rolling::no_volumes;
+use crate::rolling::{had, no_volumes};
 use crate::volume_numbers::judge_copy_name;
 use crate::volume_row::Volumes;
 use cli_console::{Failure, write_text};
@@ -100,13 +100,15 @@ fn place(
     ensures { IfOk result (λ x. copied ≡ Ok x) }
 {
     let copied = copied?;
-    let row = row_in(rt, volumes.folder).map_err(|cause| no_volumes(rt, volumes.folder, cause))?;
+    let row = had(rt, volumes.folder, row_in(rt, volumes.folder))?;
     let sheet = Sheet {
         size: row.sheet.size,
         begun: volumes.last,
     };
-    end_copy(rt, draft, new, sheet).map_err(|cause| not_made(no_volumes(rt, new, cause)))?;
-    Ok(copied)
+    match end_copy(rt, draft, new, sheet) {
+        Ok(()) => Ok(copied),
+        Err(cause) => Err(not_made(no_volumes(rt, new, cause))),
+    }
 }
 
 /// The same. Where the folder does not get its place, its draft is removed.
@@ -140,8 +142,10 @@ fn copied_line(alloc: Global, volumes: u32, copied: Copied) -> Result<Shown, All
 fn begin_draft(rt: &HostRuntime, new: &str) -> Result<String, Failure>
     ensures { IfOk result (λ draft. string_bytes draft ≡ draft_of new.now) }
 {
-    let draft = begin_copy(rt, new).map_err(|cause| not_made(no_volumes(rt, new, cause)))?;
-    Ok(draft)
+    match begin_copy(rt, new) {
+        Ok(draft) => Ok(draft),
+        Err(cause) => Err(not_made(no_volumes(rt, new, cause))),
+    }
 }
 
 /// Makes a new folder, at a path where nothing is, with a copy of each volume of the archive in a folder, as `copy_to` makes one of a
@@ -158,7 +162,7 @@ pub fn copy_volumes<A: Archives>(
         new.now)) }
 {
     judge_copy_name(rt, new)?;
-    let _lock = lock_folder(rt, folder).map_err(|cause| no_volumes(rt, folder, cause))?;
+    let _lock = had(rt, folder, lock_folder(rt, folder))?;
     let volumes = Volumes::of(rt, folder)?;
     let begun = begin_draft(rt, new)?;
     let draft = begun.as_str();

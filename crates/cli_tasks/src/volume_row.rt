@@ -67,7 +67,10 @@ pub fn named_in<T: Drop>(
 ) -> Result<T, Failure>
     ensures { IfOk result (λ x. done ≡ Ok x) }
 {
-    done.map_err(|failure| failure_in(rt, failure, volume))
+    match done {
+        Ok(x) => Ok(x),
+        Err(failure) => Err(failure_in(rt, failure, volume)),
+    }
 }
 
 impl<'a> Volumes<'a> {
@@ -76,11 +79,13 @@ impl<'a> Volumes<'a> {
         ensures folder { IfOk result (λ v. v.folder.now ≡ folder.now) }
         ensures some { IfOk result (λ v. 1 ≤ v.last) }
     {
-        let row = row_in(rt, folder).map_err(|cause| no_volumes(rt, folder, cause))?;
-        Ok(Volumes {
-            folder,
-            last: row.last,
-        })
+        match row_in(rt, folder) {
+            Ok(row) => Ok(Volumes {
+                folder,
+                last: row.last,
+            }),
+            Err(cause) => Err(no_volumes(rt, folder, cause)),
+        }
     }
 
     /// Does something with the volume of a number, which a failure names, as `failure_in` says.

@@ -22,7 +22,7 @@ ghost use Rattle.cli_tasks.specs.Works.{EachVolume, OverVolumes};
 
 use crate::archives::Archives;
 use crate::changes::{ChangeBy, Changing, LedgerWork, purpose_of_plan};
-use crate::rolling::no_volumes;
+use crate::rolling::had;
 use crate::titles::{SetTitles, tell_none};
 use crate::volume_plans::judge_plans;
 use crate::volume_row::{Volumes, author_in, volume_line};
@@ -192,7 +192,10 @@ fn failure_cut_off(rt: &HostRuntime, failure: Failure) -> Failure {
 pub fn not_cut_off<T: Drop>(rt: &HostRuntime, done: Result<T, Failure>) -> Result<T, Failure>
     ensures { IfOk result (λ x. done ≡ Ok x) }
 {
-    done.map_err(|failure| failure_cut_off(rt, failure))
+    match done {
+        Ok(x) => Ok(x),
+        Err(failure) => Err(failure_cut_off(rt, failure)),
+    }
 }
 
 /// Replaces the plan of each volume of the archive in a folder by that of the file at a path. It is asked once, behind what that changes in
@@ -212,7 +215,7 @@ pub fn set_plan<A: Archives>(
         folder.now told.now)) }
 {
     let plan = read_plan(rt, path)?;
-    let _lock = lock_folder(rt, folder).map_err(|cause| no_volumes(rt, folder, cause))?;
+    let _lock = had(rt, folder, lock_folder(rt, folder))?;
     let volumes = Volumes::of(rt, folder)?;
     judge_plan_in_each(rt, archives, volumes, &plan, path, told)?;
     let replaced = replace_in_each(rt, archives, volumes, &plan, path, is_agreed, told);
@@ -259,7 +262,7 @@ pub fn set_titles<A: Archives>(
     let author = Author::of(rt, told)?;
     author.named(rt)?;
     let text = read_titles(rt, path)?;
-    let _lock = lock_folder(rt, folder).map_err(|cause| no_volumes(rt, folder, cause))?;
+    let _lock = had(rt, folder, lock_folder(rt, folder))?;
     let volumes = Volumes::of(rt, folder)?;
     judge_plans(rt, archives, volumes)?;
     judge_histories(rt, archives, volumes)?;
