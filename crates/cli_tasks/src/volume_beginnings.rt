@@ -26,7 +26,7 @@ ghost use Rattle.cli_tasks.specs.Works.{OverVolumes};
 use crate::archives::{Archives, Work};
 use crate::beginnings::{NoteReasons, accepted_line, begun_line, reasons_line};
 use crate::rolling::had;
-use crate::volume_row::{Volumes, author_in, volume_line};
+use crate::volume_row::{Volumes, author_in, judge_named, volume_line};
 use crate::volume_settings::not_cut_off;
 use crate::volume_soundness::{judge_beginnings, judge_histories};
 use cli_console::{Failure, Joined, Status, tell, write_text};
@@ -218,8 +218,7 @@ pub fn begin<A: Archives>(
     ensures { OnOk result (OverVolumes (BeginsOver A.Kept.Store (A.is_at archives.now)
         folder.now)) }
 {
-    let author = Author::of(rt, told)?;
-    author.named(rt)?;
+    judge_named(rt, told)?;
     let _lock = had(rt, folder, lock_folder(rt, folder))?;
     let volumes = Volumes::of(rt, folder)?;
     judge_beginnings(rt, archives, volumes)?;
@@ -260,8 +259,7 @@ pub fn require_reasons<A: Archives>(
     ensures { OnOk result (OverVolumes (NotesReasonsOver A.Kept.Store (A.is_at archives.now)
         folder.now)) }
 {
-    let author = Author::of(rt, told)?;
-    author.named(rt)?;
+    judge_named(rt, told)?;
     let _lock = had(rt, folder, lock_folder(rt, folder))?;
     let volumes = Volumes::of(rt, folder)?;
     judge_histories(rt, archives, volumes)?;
@@ -399,8 +397,7 @@ pub fn accept_found<A: Archives>(
     ensures { OnOk result (OverVolumes (AcceptsOver A.Kept.Store (A.is_at archives.now) folder.now
         told.now)) }
 {
-    let author = Author::of(rt, told)?;
-    author.named(rt)?;
+    judge_named(rt, told)?;
     let volumes = Volumes::of(rt, folder)?;
     let accepted = accept_in_each(rt, archives, volumes, told);
     let is_any = not_cut_off(rt, accepted)?;

@@ -258,7 +258,7 @@ pub fn report<A: Archives>(
     let by_day = day_or_today(rt, day)?;
     judge_plans(rt, archives, volumes)?;
     let plan = volumes.plan(rt, archives)?;
-    let titles = volumes.lend_last(rt, archives, ReadTitles)?;
+    let titles = volumes.lend(rt, archives, volumes.last, ReadTitles)?;
     let report = VolumeReport::new(rt, &plan, by_day)?;
     let reading = read_each(rt, archives, volumes, typed, &questions, report)?;
     let Reading { reader, joined } = reading;

@@ -38,6 +38,13 @@ pub fn author_in<'a>(
     Ok(Author::of(rt, told)?.in_volume(Some(volume)))
 }
 
+/// Finds that it is known who makes a change. Else `Usage`.
+pub fn judge_named(rt: &HostRuntime, told: &Attribution<'_>) -> Result<(), Failure> {
+    let author = Author::of(rt, told)?;
+    author.named(rt)?;
+    Ok(())
+}
+
 /// Whether a failure is one of standard output.
 fn is_of_output(failure: &Failure) -> bool
     ensures { result ≡ is_of_output failure.now }
@@ -102,16 +109,6 @@ impl<'a> Volumes<'a> {
         let path = path_of(rt.alloc(), self.folder, volume)?;
         let (done, closed) = archives.lend(rt, path.as_str(), work)?;
         settled(rt, path.as_str(), named_in(rt, done, volume), closed)
-    }
-
-    /// Does something with the last volume, whose plan and titles are those of the archive.
-    pub fn lend_last<A: Archives, W: Work>(
-        &self,
-        rt: &HostRuntime,
-        archives: &A,
-        work: W,
-    ) -> Result<W::Answer, Failure> {
-        self.lend(rt, archives, self.last, work)
     }
 
     /// The path of the volume of a record. `Usage` where its number is typed without one, and `BadData` where there is no such volume.

@@ -25,12 +25,12 @@ use crate::changes::{ChangeBy, Changing, LedgerWork, purpose_of_plan};
 use crate::rolling::had;
 use crate::titles::{SetTitles, tell_none};
 use crate::volume_plans::judge_plans;
-use crate::volume_row::{Volumes, author_in, volume_line};
+use crate::volume_row::{Volumes, author_in, judge_named, volume_line};
 use crate::volume_soundness::judge_histories;
 use class_plan::Plan;
 use cli_changes::{read_plan, read_titles, replace_plan};
 use cli_console::{Failure, Status, write_text};
-use cli_history::{Author, Purpose, Seals, StoreLedger};
+use cli_history::{Purpose, Seals, StoreLedger};
 use cli_volumes::lock_folder;
 use command_lines::archives::Attribution;
 use sqlite::Alter;
@@ -259,8 +259,7 @@ pub fn set_titles<A: Archives>(
     ensures { OnOk result (OverVolumes (GivesTitlesOver A.Kept.Store (A.is_at archives.now)
         folder.now)) }
 {
-    let author = Author::of(rt, told)?;
-    author.named(rt)?;
+    judge_named(rt, told)?;
     let text = read_titles(rt, path)?;
     let _lock = had(rt, folder, lock_folder(rt, folder))?;
     let volumes = Volumes::of(rt, folder)?;

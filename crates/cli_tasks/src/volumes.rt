@@ -123,9 +123,9 @@ pub fn execute_over<A: Archives>(
 {
     let volumes = Volumes::of(rt, folder)?;
     match command {
-        Command::WritePlan => volumes.lend_last(rt, archives, Survey::Plan),
+        Command::WritePlan => volumes.lend(rt, archives, volumes.last, Survey::Plan),
         Command::WriteTitles { is_json } => {
-            volumes.lend_last(rt, archives, Survey::Titles { is_json })
+            volumes.lend(rt, archives, volumes.last, Survey::Titles { is_json })
         }
         Command::CheckRules(asked) => check_rules(rt, archives, volumes, asked),
         Command::Check { head } => check(rt, archives, volumes, head),
