@@ -157,12 +157,7 @@ module _ {S : Type 0} (g : Ghosts S) (WasThere : Store S → Type 0) (told : Att
       → choice ≡ typed.alone → first_of_volumes typed ≡ None → OnOk result (DoesWith g WasThere told choice chosen)
       → OnOk result (DoesAsTyped g WasThere told typed chosen)
   typed_as typed choice chosen (Err failure) is none done = tt
-  typed_as typed choice (task.List listing) (Ok x) is none done = tt
-  typed_as typed choice (task.Export target) (Ok x) is none done = tt
-  typed_as typed choice (task.Report day) (Ok x) is none done = tt
-  typed_as typed choice (task.Hold name) (Ok x) is none done = (none, subst (λ c. DoesWith g WasThere told c (task.Hold name)) is done)
-  typed_as typed choice (task.Release name) (Ok x) is none done = (none, subst (λ c. DoesWith g WasThere told c (task.Release name)) is done)
-  typed_as typed choice (task.Refile refiling) (Ok x) is none done = (none, subst (λ c. DoesWith g WasThere told c (task.Refile refiling)) is done)
+  typed_as typed choice chosen (Ok x) is none done = (none, subst (λ c. DoesWith g WasThere told c chosen) is done)
 
   -- another plan
   pub planned_as : (plan : Listing) (path : Bor (List ℕ)) (is_agreed : Bool) (result : Result (Unit {0}) Failure)

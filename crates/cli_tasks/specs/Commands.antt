@@ -29,6 +29,7 @@ use Rattle.record_ledger.specs.declared.ledger.Ledger.{Ledger}
 use Rattle.record_store.specs.declared.store.Store.{Store}
 use Rattle.cli_changes.specs.Approvals.{IsAsTyped}
 use Rattle.cli_tasks.specs.Changes.{Changes, ChangesChosen, ChangesHold, Disposes, EndsHold, Makes, Refiles, ReplacesBy}
+use Rattle.cli_tasks.specs.Copies.{CopiesTo}
 use Rattle.cli_tasks.specs.Purposes.{for_chosen, for_disposal, for_hold, for_plan, purpose_of}
 use Rattle.cli_tasks.specs.Works.{IsDone}
 use Rattle.cli_tasks.specs.declared.changes.ChosenChange.{ChosenChange}
@@ -101,16 +102,16 @@ module _ {S : Type 0} (g : Ghosts S) (WasThere : Store S → Type 0) (told : Att
 
   -- the same of a choice as it is typed: no number has a volume
   abbrev pub DoesAsTyped : TypedChoice → ChosenTask → Type 0
-  DoesAsTyped typed (task.Hold name) = (first_of_volumes typed ≡ None) × DoesWith typed.alone (task.Hold name)
-  DoesAsTyped typed (task.Release name) = (first_of_volumes typed ≡ None) × DoesWith typed.alone (task.Release name)
-  DoesAsTyped typed (task.Refile refiling) = (first_of_volumes typed ≡ None) × DoesWith typed.alone (task.Refile refiling)
-  DoesAsTyped typed t = Unit {0}
+  DoesAsTyped typed t = (first_of_volumes typed ≡ None) × DoesWith typed.alone t
 
-  -- WHAT A COMMAND LINE MAKES of the archive at its path, where it changes records, holds or the plan; nothing is said here of the others
+module _ {S : Type 0} (g : Ghosts S) (IsAt : (path : List ℕ) → Store S → Type 0) (path : List ℕ) (told : Attribution) where
+  -- WHAT A COMMAND LINE MAKES of the archive at its path, where it changes records, holds or the plan, or copies it; nothing is said here of
+  -- the others
   abbrev pub Does : Command → Type 0
-  Does (command.Chosen typed chosen) = DoesAsTyped typed chosen
-  Does (command.ReleaseAll name is_agreed) = IsDone WasThere (λ before after.
+  Does (command.Chosen typed chosen) = DoesAsTyped g (IsAt path) told typed chosen
+  Does (command.ReleaseAll name is_agreed) = IsDone (IsAt path) (λ before after.
       ChangesAsTold g told before after Ending (λ old new seals. EndsHold g old new well name.now))
-  Does (command.ReplacePlan path is_agreed) = IsDone WasThere (λ before after. ReplacesPlan g told before after)
-  Does (command.Dispose asked) = IsDone WasThere (λ before after. DisposesAsTyped g told before after asked)
+  Does (command.ReplacePlan file is_agreed) = IsDone (IsAt path) (λ before after. ReplacesPlan g told before after)
+  Does (command.Dispose asked) = IsDone (IsAt path) (λ before after. DisposesAsTyped g told before after asked)
+  Does (command.Copy new is_damaged) = IsDone (IsAt path) (CopiesTo g g IsAt new.now)
   Does c = Unit {0}

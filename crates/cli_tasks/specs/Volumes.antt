@@ -143,4 +143,4 @@ module _ {S : Type 0} (g : Ghosts S) (IsAt : (path : List ℕ) → Store S → T
 
   -- WHAT IT MAKES OF WHAT IS AT ITS PATH: of an archive, or of the volumes of one
   abbrev pub DoesThere : Command → Type 0
-  DoesThere c = Does g (IsAt folder) told c ⊎ DoesOver c
+  DoesThere c = Does g IsAt folder told c ⊎ DoesOver c

@@ -493,7 +493,7 @@ fn execute_at<'a, A: Archives>(
     command: Command<'a>,
     told: &Attribution<'a>,
 ) -> Result<(), Failure>
-    ensures { OnOk result (Does A.Kept.Store (A.is_at archives.now store.now) told.now
+    ensures { OnOk result (Does A.Kept.Store (A.is_at archives.now) store.now told.now
         command.entry) }
 {
     match command {
