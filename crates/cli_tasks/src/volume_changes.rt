@@ -13,7 +13,7 @@ ghost use Rattle.cli_tasks.specs.Works.{SomeVolume};
 use crate::archives::{Archives, Work};
 use crate::changes::{ChangeBy, LedgerWork, purpose_of_hold};
 use crate::volume_endings::judge_endings;
-use crate::volume_numbers::{judge_hold_name, judge_numbers};
+use crate::volume_numbers::{NAME_FORGOTTEN, judge_forgotten, judge_numbers};
 use crate::volume_row::{Volumes, author_in};
 use choice_words::TypedChoice;
 use class_plan::Plan;
@@ -197,7 +197,7 @@ fn judge_name(rt: &HostRuntime, change: Change, name: &str) -> Result<(), Failur
     ensures { OnOk result (change ≡ Change.Place → reads_as_any_numbers name.now ≡ false) }
 {
     match change {
-        Change::Place => judge_hold_name(rt, name),
+        Change::Place => judge_forgotten(rt, name, NAME_FORGOTTEN),
         Change::End => Ok(()),
     }
 }

@@ -8,7 +8,7 @@ ghost use Rattle.cli_tasks.specs.Works.{EachVolume, OverVolumes};
 use crate::archives::{Archives, not_made};
 use crate::copy::{Copying, Damage, Paths};
 use crate::rolling::{had, no_volumes};
-use crate::volume_numbers::judge_copy_name;
+use crate::volume_numbers::{COPY_FORGOTTEN, judge_forgotten};
 use crate::volume_row::Volumes;
 use cli_console::{Failure, write_text};
 use cli_readings::Summary;
@@ -161,7 +161,7 @@ pub fn copy_volumes<A: Archives>(
     ensures { OnOk result (OverVolumes (CopiesOver A.Kept.Store (A.is_at archives.now) folder.now
         new.now)) }
 {
-    judge_copy_name(rt, new)?;
+    judge_forgotten(rt, new, COPY_FORGOTTEN)?;
     let _lock = had(rt, folder, lock_folder(rt, folder))?;
     let volumes = Volumes::of(rt, folder)?;
     let begun = begin_draft(rt, new)?;

@@ -46,12 +46,16 @@ fn no_volume_words(alloc: Global, typed: VolumeNumbers, last: u32) -> Result<Sho
 }
 
 /// What is said of numbers of records where the name of a hold belongs.
-const NAME_FORGOTTEN: &str =
+pub const NAME_FORGOTTEN: &str =
     ": numbers of records, where the name of the hold belongs; type it before them, as audit 3/17";
 
 /// What is said of numbers of records where the folder of an export belongs.
-const FOLDER_FORGOTTEN: &str =
+pub const FOLDER_FORGOTTEN: &str =
     ": numbers of records, where the folder of the export belongs; type it before them, as for-court 3/17; type ./ before a folder of this name";
+
+/// What is said of numbers of records where the folder of a copy belongs.
+pub const COPY_FORGOTTEN: &str =
+    ": numbers of records, where the folder of the new archive belongs, which gets all records; type ./ before a folder of this name";
 
 /// That numbers of records stand where something else belongs.
 fn forgotten_words(alloc: Global, word: &str, said: &'static str) -> Result<Shown, AllocError> {
@@ -62,7 +66,7 @@ fn forgotten_words(alloc: Global, word: &str, said: &'static str) -> Result<Show
 
 /// Finds that a word does not read as numbers of records, with a volume or without, before which it was more likely forgotten.
 /// `Usage`, with what is said of them, where it does.
-fn judge_forgotten(rt: &HostRuntime, word: &str, said: &'static str) -> Result<(), Failure>
+pub fn judge_forgotten(rt: &HostRuntime, word: &str, said: &'static str) -> Result<(), Failure>
     ensures named { OnOk result (reads_as_any_numbers word.now ≡ false) }
     ensures refused { IfErr result (IsToldAs Usage) }
 {
@@ -71,34 +75,6 @@ fn judge_forgotten(rt: &HostRuntime, word: &str, said: &'static str) -> Result<(
         return Err(Failure::shown(Status::Usage, words));
     }
     Ok(())
-}
-
-/// Finds that the name of a hold does not read as numbers of records. `Usage` where it does.
-pub fn judge_hold_name(rt: &HostRuntime, name: &str) -> Result<(), Failure>
-    ensures named { OnOk result (reads_as_any_numbers name.now ≡ false) }
-    ensures refused { IfErr result (IsToldAs Usage) }
-{
-    judge_forgotten(rt, name, NAME_FORGOTTEN)
-}
-
-/// Finds that the folder of an export does not read as numbers of records. `Usage` where it does.
-pub fn judge_folder_name(rt: &HostRuntime, folder: &str) -> Result<(), Failure>
-    ensures named { OnOk result (reads_as_any_numbers folder.now ≡ false) }
-    ensures refused { IfErr result (IsToldAs Usage) }
-{
-    judge_forgotten(rt, folder, FOLDER_FORGOTTEN)
-}
-
-/// What is said of numbers of records where the folder of a copy belongs.
-const COPY_FORGOTTEN: &str =
-    ": numbers of records, where the folder of the new archive belongs, which gets all records; type ./ before a folder of this name";
-
-/// Finds that the folder of a copy does not read as numbers of records. `Usage` where it does.
-pub fn judge_copy_name(rt: &HostRuntime, folder: &str) -> Result<(), Failure>
-    ensures named { OnOk result (reads_as_any_numbers folder.now ≡ false) }
-    ensures refused { IfErr result (IsToldAs Usage) }
-{
-    judge_forgotten(rt, folder, COPY_FORGOTTEN)
 }
 
 /// A choice that is typed, in a store that is one file. `Usage` where a number is typed with a volume.

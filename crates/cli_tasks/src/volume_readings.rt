@@ -7,7 +7,7 @@ ghost use Rattle.cli_tasks.specs.Plans.{HaveOnePlan};
 ghost use Rattle.cli_tasks.specs.Readings.{AreOfVolumes, ExportsOver, GoesWell, ListsOver, ListsToOutput, ReadsEach, ReadsIn, ReadsTyped, ReportsOver};
 
 use crate::archives::{Archives, Work};
-use crate::volume_numbers::{judge_folder_name, judge_numbers};
+use crate::volume_numbers::{FOLDER_FORGOTTEN, judge_forgotten, judge_numbers};
 use crate::volume_plans::judge_plans;
 use crate::volume_row::Volumes;
 use choice_words::TypedChoice;
@@ -213,7 +213,7 @@ pub fn export<'a, A: Archives>(
     ensures { OnOk result (ExportsOver A.Kept.Store (A.is_at archives.now)
         volumes.entry.folder.now typed.now target.entry volumes.entry.last) }
 {
-    judge_folder_name(rt, target.folder)?;
+    judge_forgotten(rt, target.folder, FOLDER_FORGOTTEN)?;
     let questions = judge_typed_choice(rt, volumes.last, typed)?;
     let export = VolumeExport::new(rt, target, volumes.last);
     let reading = read_each(rt, archives, volumes, typed, &questions, export)?;

@@ -14,7 +14,7 @@ returns g c =
       volumes.last,
       c.in_ok-volumes.ensures.some,
       record {
-        named = c.in_ok-judge_copy_name.ensures.named;
+        named = c.in_ok-judge_forgotten.ensures.named;
         each = subst (λ (from : List ℕ). Each from (draft_of c.args.new.now)) c.in_ok-volumes.ensures.folder
             (subst (λ (to : List ℕ). Each volumes.folder.now to) (c.as_str-draft.ensures.value ∙ c.in_ok-begun.ensures) each);
       },

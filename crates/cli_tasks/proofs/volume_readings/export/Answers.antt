@@ -5,7 +5,7 @@ pub returns : goal.returns
 returns g c =
     let reading = c.in_ok-reading.reading in
     on_ok_both c.end.result c.end.ensures.some c.end.ensures.well (λ some well. record {
-      named = c.in_ok-judge_folder_name.ensures.named;
+      named = c.in_ok-judge_forgotten.ensures.named;
       numbers = c.in_ok-questions.ensures.numbers;
       questions = c.in_ok-questions.questions;
       asked = c.in_ok-questions.ensures.asked;
