@@ -2,7 +2,7 @@
 
 use crate::archives::{Archives, Work};
 use crate::volume_beginnings::mark_of;
-use crate::volume_checks::{Marks, alone_words, broken_words};
+use crate::volume_checks::{Marks, Met, alone_words, broken_words};
 use crate::volume_row::Volumes;
 use cli_console::{Failure, Status};
 use cli_history::{Beginning, beginning_in, open_history};
@@ -25,35 +25,6 @@ struct ReadLink<'m> {
     next: Option<&'m [u8]>,
 }
 
-impl ReadLink<'_> {
-    /// Whether no event of a store has the mark. The connection is handed back.
-    fn lacks_next<S: Alter>(
-        &self,
-        rt: &HostRuntime,
-        archive: Store<S>,
-    ) -> (Connection<S>, Result<bool, Failure>) {
-        let marks = Marks {
-            head: None,
-            next: self.next,
-        };
-        match open_history(rt, archive) {
-            Ok(Opened::Noted(noted)) => {
-                let mut noted = noted;
-                let met = marks.look_in(rt, &mut noted);
-                let connection = noted.into_store().into_connection();
-                match met {
-                    Ok(met) => (connection, Ok(met.lacks_next)),
-                    Err(failure) => (connection, Err(failure)),
-                }
-            }
-            Ok(Opened::Plain(archive)) => {
-                (archive.into_connection(), Ok(marks.nowhere().lacks_next))
-            }
-            Err((archive, failure)) => (archive.into_connection(), Err(failure)),
-        }
-    }
-}
-
 impl Work for ReadLink<'_> {
     type Answer = Link;
 
@@ -67,16 +38,34 @@ impl Work for ReadLink<'_> {
             Ok(beginning) => beginning,
             Err(failure) => return (archive.into_connection(), Err(failure)),
         };
-        let (connection, lacks_next) = self.lacks_next(rt, archive);
-        match lacks_next {
-            Ok(lacks_next) => {
+        let marks = Marks {
+            head: None,
+            next: self.next,
+        };
+        match open_history(rt, archive) {
+            Ok(Opened::Noted(noted)) => {
+                let mut noted = noted;
+                let met = marks.look_in(rt, &mut noted);
+                let connection = noted.into_store().into_connection();
+                match met {
+                    Ok(Met { lacks_next, .. }) => {
+                        let link = Link {
+                            beginning,
+                            lacks_next,
+                        };
+                        (connection, Ok(link))
+                    }
+                    Err(failure) => (connection, Err(failure)),
+                }
+            }
+            Ok(Opened::Plain(archive)) => {
                 let link = Link {
                     beginning,
-                    lacks_next,
+                    lacks_next: marks.nowhere().lacks_next,
                 };
-                (connection, Ok(link))
+                (archive.into_connection(), Ok(link))
             }
-            Err(failure) => (connection, Err(failure)),
+            Err((archive, failure)) => (archive.into_connection(), Err(failure)),
         }
     }
 }

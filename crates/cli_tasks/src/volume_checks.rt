@@ -6,8 +6,7 @@ use crate::volume_row::{Volumes, failure_in, named_in, volume_line};
 use class_plan::Plan;
 use cli_console::{Failure, Joined, Status, told_now, write_text};
 use cli_history::{
-    Beginning, StoredSeals, beginning_in, event_with_mark, is_same_plan, judge_history,
-    open_history,
+    Beginning, beginning_in, event_with_mark, is_same_plan, judge_history, open_history,
 };
 use cli_readings::{Contents, Totals, write_contents, write_totals};
 use record_noted::{NotedStore, Opened};
@@ -142,40 +141,11 @@ struct Checked {
     history: Result<(), Failure>,
 }
 
-/// Judges a volume and its history, and looks for marks there.
+/// Judges a volume and its history, where there is one, and looks for marks there.
 #[derive(Drop)]
 struct CheckVolume<'m> {
     volume: u32,
     marks: Marks<'m>,
-}
-
-impl CheckVolume<'_> {
-    /// Judges the history, where there is one, and looks for the marks there.
-    fn judge<S: Alter>(
-        &self,
-        rt: &HostRuntime,
-        archive: Store<S>,
-        seals: StoredSeals,
-    ) -> (Connection<S>, Result<Met, Failure>, Result<(), Failure>) {
-        match open_history(rt, archive) {
-            Ok(Opened::Noted(noted)) => {
-                let mut noted = noted;
-                let met = self.marks.look_in(rt, &mut noted);
-                let judged = judge_history(rt, &mut noted, Some(self.volume), None, seals);
-                let connection = noted.into_store().into_connection();
-                let met = named_in(rt, met, self.volume);
-                (connection, met, named_in(rt, judged, self.volume))
-            }
-            Ok(Opened::Plain(archive)) => {
-                let said = say_none(rt);
-                (archive.into_connection(), Ok(self.marks.nowhere()), said)
-            }
-            Err((archive, failure)) => {
-                let failure = failure_in(rt, failure, self.volume);
-                (archive.into_connection(), Err(failure), Ok(()))
-            }
-        }
-    }
 }
 
 impl Work for CheckVolume<'_> {
@@ -191,13 +161,35 @@ impl Work for CheckVolume<'_> {
             Ok(contents) => contents,
             Err(failure) => return (archive.into_connection(), Err(failure)),
         };
-        let (connection, met, history) = self.judge(rt, archive, seals);
-        let checked = Checked {
-            totals,
-            met,
-            history,
-        };
-        (connection, Ok(checked))
+        match open_history(rt, archive) {
+            Ok(Opened::Noted(noted)) => {
+                let mut noted = noted;
+                let met = self.marks.look_in(rt, &mut noted);
+                let judged = judge_history(rt, &mut noted, Some(self.volume), None, seals);
+                let checked = Checked {
+                    totals,
+                    met: named_in(rt, met, self.volume),
+                    history: named_in(rt, judged, self.volume),
+                };
+                (noted.into_store().into_connection(), Ok(checked))
+            }
+            Ok(Opened::Plain(archive)) => {
+                let checked = Checked {
+                    totals,
+                    met: Ok(self.marks.nowhere()),
+                    history: say_none(rt),
+                };
+                (archive.into_connection(), Ok(checked))
+            }
+            Err((archive, failure)) => {
+                let checked = Checked {
+                    totals,
+                    met: Err(failure_in(rt, failure, self.volume)),
+                    history: Ok(()),
+                };
+                (archive.into_connection(), Ok(checked))
+            }
+        }
     }
 }
 
