@@ -115,22 +115,6 @@ fn ending_in<S: Alter>(rt: &HostRuntime, noted: &mut NotedStore<S>) -> Result<En
     })
 }
 
-/// How the history of a store ends, where it has one. The store is handed back.
-fn ending_of<S: Alter>(
-    rt: &HostRuntime,
-    archive: Store<S>,
-) -> (Store<S>, Result<Option<Ending>, Failure>) {
-    match open_history(rt, archive) {
-        Ok(Opened::Noted(noted)) => {
-            let mut noted = noted;
-            let ending = ending_in(rt, &mut noted);
-            (noted.into_store(), ending.map(Some))
-        }
-        Ok(Opened::Plain(archive)) => (archive, Ok(None)),
-        Err((archive, failure)) => (archive, Err(failure)),
-    }
-}
-
 /// Reads what the next volume takes over from the last one, where a message may be captured now. In the next volume there is no
 /// record yet by whose day the clock could be judged. What is bad in the history of the last one is told with its number.
 #[derive(Drop)]
@@ -173,7 +157,17 @@ impl<A: Archives> Work for ReadLast<'_, A> {
         rt: &HostRuntime,
         archive: Store<S>,
     ) -> (Connection<S>, Result<Inherited, Failure>) {
-        let (archive, ending) = ending_of(rt, archive);
+        let (archive, ending) = match open_history(rt, archive) {
+            Ok(Opened::Noted(noted)) => {
+                let mut noted = noted;
+                match ending_in(rt, &mut noted) {
+                    Ok(ending) => (noted.into_store(), Ok(Some(ending))),
+                    Err(failure) => (noted.into_store(), Err(failure)),
+                }
+            }
+            Ok(Opened::Plain(archive)) => (archive, Ok(None)),
+            Err((archive, failure)) => (archive, Err(failure)),
+        };
         let mut archive = archive;
         let read = match named_in(rt, ending, self.volume) {
             Ok(ending) => self.inherited(rt, &mut archive, ending),
@@ -209,12 +203,18 @@ fn take_titles<S: Alter>(
     }
 }
 
-/// Has a history require reasons. The store is handed back.
-fn take_reasons<S: Alter>(
+/// Has a history tell what it takes over, behind its first event: what classes are called, and whether it requires reasons. The store is
+/// handed back.
+fn take_over<S: Alter>(
     rt: &HostRuntime,
     archive: Store<S>,
+    before: &InheritedHistory,
     author: &Author<'_>,
 ) -> (Store<S>, Result<(), Failure>) {
+    let (archive, told) = take_titles(rt, archive, &before.titles, author);
+    if told.is_err() || !before.ending.requires_reasons {
+        return (archive, told);
+    }
     match open_noted(rt, archive) {
         Ok(noted) => {
             let (archive, noted) = note_reasons(rt, noted, author, Reasons::Required);
@@ -224,20 +224,6 @@ fn take_reasons<S: Alter>(
             }
         }
         Err((archive, failure)) => (archive, Err(failure)),
-    }
-}
-
-/// Has a history tell what it takes over, behind its first event. The store is handed back.
-fn take_over<S: Alter>(
-    rt: &HostRuntime,
-    archive: Store<S>,
-    before: &InheritedHistory,
-    author: &Author<'_>,
-) -> (Store<S>, Result<(), Failure>) {
-    let (archive, told) = take_titles(rt, archive, &before.titles, author);
-    match told {
-        Ok(()) if before.ending.requires_reasons => take_reasons(rt, archive, author),
-        other => (archive, other),
     }
 }
 

@@ -21,9 +21,7 @@ struct Link {
 
 /// Reads how the history of a volume begins, and whether it has the mark after which the next volume began, where that names one.
 #[derive(Drop)]
-struct ReadLink<'m> {
-    next: Option<&'m [u8]>,
-}
+struct ReadLink<'m>(Marks<'m>);
 
 impl Work for ReadLink<'_> {
     type Answer = Link;
@@ -38,14 +36,10 @@ impl Work for ReadLink<'_> {
             Ok(beginning) => beginning,
             Err(failure) => return (archive.into_connection(), Err(failure)),
         };
-        let marks = Marks {
-            head: None,
-            next: self.next,
-        };
         match open_history(rt, archive) {
             Ok(Opened::Noted(noted)) => {
                 let mut noted = noted;
-                let met = marks.look_in(rt, &mut noted);
+                let met = self.0.look_in(rt, &mut noted);
                 let connection = noted.into_store().into_connection();
                 match met {
                     Ok(Met { lacks_next, .. }) => {
@@ -61,7 +55,7 @@ impl Work for ReadLink<'_> {
             Ok(Opened::Plain(archive)) => {
                 let link = Link {
                     beginning,
-                    lacks_next: marks.nowhere().lacks_next,
+                    lacks_next: self.0.nowhere().lacks_next,
                 };
                 (archive.into_connection(), Ok(link))
             }
@@ -81,13 +75,14 @@ pub fn judge_chain<A: Archives>(
     let mut next: Option<Vec<u8>> = None;
     for later in 0..volumes.last {
         let volume = volumes.last - later;
-        let work = ReadLink {
+        let marks = Marks {
+            head: None,
             next: mark_of(&next),
         };
         let Link {
             beginning,
             lacks_next,
-        } = volumes.lend(rt, archives, volume, work)?;
+        } = volumes.lend(rt, archives, volume, ReadLink(marks))?;
         if lacks_next {
             return Err(Failure::shown(Status::BadData, broken_words(rt.alloc(), volume)));
         }

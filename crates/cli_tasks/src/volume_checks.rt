@@ -161,35 +161,31 @@ impl Work for CheckVolume<'_> {
             Ok(contents) => contents,
             Err(failure) => return (archive.into_connection(), Err(failure)),
         };
-        match open_history(rt, archive) {
+        let volume = self.volume;
+        let (connection, met, history) = match open_history(rt, archive) {
             Ok(Opened::Noted(noted)) => {
                 let mut noted = noted;
                 let met = self.marks.look_in(rt, &mut noted);
-                let judged = judge_history(rt, &mut noted, Some(self.volume), None, seals);
-                let checked = Checked {
-                    totals,
-                    met: named_in(rt, met, self.volume),
-                    history: named_in(rt, judged, self.volume),
-                };
-                (noted.into_store().into_connection(), Ok(checked))
+                let judged = judge_history(rt, &mut noted, Some(volume), None, seals);
+                let met = named_in(rt, met, volume);
+                let judged = named_in(rt, judged, volume);
+                (noted.into_store().into_connection(), met, judged)
             }
             Ok(Opened::Plain(archive)) => {
-                let checked = Checked {
-                    totals,
-                    met: Ok(self.marks.nowhere()),
-                    history: say_none(rt),
-                };
-                (archive.into_connection(), Ok(checked))
+                let met = self.marks.nowhere();
+                (archive.into_connection(), Ok(met), say_none(rt))
             }
             Err((archive, failure)) => {
-                let checked = Checked {
-                    totals,
-                    met: Err(failure_in(rt, failure, self.volume)),
-                    history: Ok(()),
-                };
-                (archive.into_connection(), Ok(checked))
+                let failure = failure_in(rt, failure, volume);
+                (archive.into_connection(), Err(failure), Ok(()))
             }
-        }
+        };
+        let checked = Checked {
+            totals,
+            met,
+            history,
+        };
+        (connection, Ok(checked))
     }
 }
 
