@@ -176,25 +176,18 @@ fn replace_in_each<A: Archives>(
     Ok(())
 }
 
-/// The same failure, but that the output cannot be written, where its reader has gone.
-fn failure_cut_off(rt: &HostRuntime, failure: Failure) -> Failure {
-    match failure {
-        Failure::Closed => Failure::told(
-            rt.alloc(),
-            Status::NotWritten,
-            "the reader of the output has gone before this was done in all volumes; do it once more",
-        ),
-        failure => failure,
-    }
-}
-
 /// What was done in the volumes. It fails with `NotWritten` where the reader of the output has gone before it was done in all of them.
 pub fn not_cut_off<T: Drop>(rt: &HostRuntime, done: Result<T, Failure>) -> Result<T, Failure>
     ensures { IfOk result (λ x. done ≡ Ok x) }
 {
     match done {
         Ok(x) => Ok(x),
-        Err(failure) => Err(failure_cut_off(rt, failure)),
+        Err(Failure::Closed) => Err(Failure::told(
+            rt.alloc(),
+            Status::NotWritten,
+            "the reader of the output has gone before this was done in all volumes; do it once more",
+        )),
+        Err(failure) => Err(failure),
     }
 }
 
