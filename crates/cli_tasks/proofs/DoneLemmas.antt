@@ -31,7 +31,7 @@ use Rattle.cli_tasks.specs.Changes.{Changes, Disposes, Makes}
 use Rattle.cli_tasks.specs.Commands.{AreAsked, ChangesAsTold, ChangesBy, ChangesChosenBy, DisposesAsTyped, DisposesBy, DoesAsTyped, DoesWith, IsTold}
 use Rattle.cli_tasks.specs.Commands.{ReplacesPlan}
 use Rattle.cli_tasks.specs.Purposes.{for_disposal, purpose_of}
-use Rattle.cli_tasks.specs.Works.{IsDone}
+use Rattle.cli_tasks.specs.Works.{IsDone, IsLent}
 use Rattle.cli_tasks.specs.declared.changes.ChosenChange.{ChosenChange}
 use Rattle.cli_tasks.specs.declared.changes.Changing.{Changing}
 use Rattle.cli_tasks.specs.declared.changes.Changing.TheVariants.{ReplacePlan, Chosen}
@@ -40,6 +40,12 @@ use Rattle.cli_tasks.specs.declared.changes.Changing.TheVariants.{ReplacePlan, C
 pub nothing_said : {X F : Type 0} (result : Result X F) → OnOk result (Unit {0})
 nothing_said (Ok x) = tt
 nothing_said (Err failure) = tt
+
+-- what was lent, whatever that comes to
+pub lent_as : {S X F : Type 0} (WasThere : Store S → Type 0) (result : Result X F) → IfOk result (λ x. IsLent WasThere)
+    → OnOk result (IsLent WasThere)
+lent_as WasThere (Ok x) lent = lent
+lent_as WasThere (Err failure) lent = tt
 
 -- where nothing more can fail
 pub on_any : {X F P : Type 0} (result : Result X F) → P → OnOk result P

@@ -31,7 +31,7 @@ use Rattle.cli_changes.specs.Approvals.{IsAsTyped}
 use Rattle.cli_tasks.specs.Changes.{Changes, ChangesChosen, ChangesHold, Disposes, EndsHold, Makes, Refiles, ReplacesBy}
 use Rattle.cli_tasks.specs.Copies.{CopiesTo}
 use Rattle.cli_tasks.specs.Purposes.{for_chosen, for_disposal, for_hold, for_plan, purpose_of}
-use Rattle.cli_tasks.specs.Works.{IsDone}
+use Rattle.cli_tasks.specs.Works.{IsDone, IsLent}
 use Rattle.cli_tasks.specs.declared.changes.ChosenChange.{ChosenChange}
 use Rattle.cli_tasks.specs.declared.changes.Changing.{Changing}
 
@@ -93,20 +93,20 @@ module _ {S : Type 0} (g : Ghosts S) (told : Attribution) (before : Store S) (af
 -- ---- command lines
 
 module _ {S : Type 0} (g : Ghosts S) (WasThere : Store S → Type 0) (told : Attribution) where
-  -- what is done with the records of a choice that is typed; nothing is said here of those that are only read
+  -- what is done with the records of a choice that is typed; of those that are only read, that it is this archive
   abbrev pub DoesWith : Choice → ChosenTask → Type 0
   DoesWith choice (task.Hold name) = IsDone WasThere (λ before after. HoldsChosen g told before after hold.Place name.now choice)
   DoesWith choice (task.Release name) = IsDone WasThere (λ before after. HoldsChosen g told before after hold.End name.now choice)
   DoesWith choice (task.Refile refiling) = IsDone WasThere (λ before after. RefilesChosen g told before after refiling.to.now choice)
-  DoesWith choice t = Unit {0}
+  DoesWith choice t = IsLent WasThere
 
   -- the same of a choice as it is typed: no number has a volume
   abbrev pub DoesAsTyped : TypedChoice → ChosenTask → Type 0
   DoesAsTyped typed t = (first_of_volumes typed ≡ None) × DoesWith typed.alone t
 
 module _ {S : Type 0} (g : Ghosts S) (IsAt : (path : List ℕ) → Store S → Type 0) (path : List ℕ) (told : Attribution) where
-  -- WHAT A COMMAND LINE MAKES of the archive at its path, where it changes records, holds or the plan, or copies it; nothing is said here of
-  -- the others
+  -- WHAT A COMMAND LINE MAKES of the archive at its path, where it changes records, holds or the plan, or copies it. Where it reads an archive,
+  -- or sets something in its history, it is the one at its path. Nothing is said here of the others.
   abbrev pub Does : Command → Type 0
   Does (command.Chosen typed chosen) = DoesAsTyped g (IsAt path) told typed chosen
   Does (command.ReleaseAll name is_agreed) = IsDone (IsAt path) (λ before after.
@@ -114,4 +114,15 @@ module _ {S : Type 0} (g : Ghosts S) (IsAt : (path : List ℕ) → Store S → T
   Does (command.ReplacePlan file is_agreed) = IsDone (IsAt path) (λ before after. ReplacesPlan g told before after)
   Does (command.Dispose asked) = IsDone (IsAt path) (λ before after. DisposesAsTyped g told before after asked)
   Does (command.Copy new is_damaged) = IsDone (IsAt path) (CopiesTo g g IsAt new.now)
+  Does command.WritePlan = IsLent (IsAt path)
+  Does (command.Show number fields) = IsLent (IsAt path)
+  Does (command.Check head) = IsLent (IsAt path)
+  Does (command.CheckRules asked) = IsLent (IsAt path)
+  Does (command.Why asked) = IsLent (IsAt path)
+  Does (command.Holds is_json) = IsLent (IsAt path)
+  Does (command.Twice listing) = IsLent (IsAt path)
+  Does (command.WriteTitles is_json) = IsLent (IsAt path)
+  Does (command.SetTitles titles) = IsLent (IsAt path)
+  Does (command.History chosen) = IsLent (IsAt path)
+  Does (command.Certificates numbers) = IsLent (IsAt path)
   Does c = Unit {0}

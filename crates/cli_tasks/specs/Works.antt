@@ -11,6 +11,10 @@ pub record IsDone {S : Type 0} (WasThere : Store S → Type 0) (Made : (before :
   pub was_there : WasThere before
   pub made : Made before after
 
+-- IT IS LENT: a store that was there, for something of which nothing is said here
+abbrev pub IsLent : {S : Type 0} → (WasThere : Store S → Type 0) → Type 0
+IsLent WasThere = IsDone WasThere (λ before after. Unit {0})
+
 -- ---- archives of volumes
 
 -- THE SAME WITH A VOLUME of the archive in a folder

@@ -1,5 +1,8 @@
 //! Histories that begin, that come to require reasons, and in which findings are accepted.
 
+ghost use Rattle.std.specs.Prelude.{OnOk};
+ghost use Rattle.cli_tasks.specs.Works.{IsLent};
+
 use crate::archives::{Archives, Work, lend};
 use cli_console::{Failure, Status, write_text};
 use cli_history::{Author, accept_findings, begin_history, note_reasons, open_history, open_noted};
@@ -58,7 +61,9 @@ pub fn begin<A: Archives>(
     archives: &A,
     store: &str,
     author: Author<'_>,
-) -> Result<(), Failure> {
+) -> Result<(), Failure>
+    ensures { OnOk result (IsLent (A.is_at archives.now store.now)) }
+{
     author.named(rt)?;
     let count = lend(rt, archives, store, BeginHistory(author))?;
     write_text(rt, &begun_line(rt.alloc(), count)?)
@@ -118,7 +123,9 @@ pub fn require_reasons<A: Archives>(
     store: &str,
     author: Author<'_>,
     reasons: Reasons,
-) -> Result<(), Failure> {
+) -> Result<(), Failure>
+    ensures { OnOk result (IsLent (A.is_at archives.now store.now)) }
+{
     author.named(rt)?;
     let number = lend(rt, archives, store, NoteReasons { author, reasons })?;
     write_text(rt, &reasons_line(rt.alloc(), reasons, number)?)
@@ -162,7 +169,9 @@ pub fn accept_found<A: Archives>(
     archives: &A,
     store: &str,
     author: Author<'_>,
-) -> Result<(), Failure> {
+) -> Result<(), Failure>
+    ensures { OnOk result (IsLent (A.is_at archives.now store.now)) }
+{
     author.named(rt)?;
     let number = lend(rt, archives, store, AcceptFound(author))?;
     write_text(rt, &accepted_line(rt.alloc(), number)?)

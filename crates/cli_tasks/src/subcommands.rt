@@ -3,7 +3,7 @@
 ghost use Rattle.std.specs.Prelude.{OnOk};
 ghost use Rattle.cli_tasks.specs.Commands.{ChangesBy, ChangesChosenBy, DisposesAsTyped, Does, DoesAsTyped, DoesWith, ReplacesPlan};
 ghost use Rattle.cli_tasks.specs.Volumes.{DoesThere};
-ghost use Rattle.cli_tasks.specs.Works.{IsDone};
+ghost use Rattle.cli_tasks.specs.Works.{IsDone, IsLent};
 
 use crate::adopting::adopt;
 use crate::archives::{Archives, Work, lend, settled};
@@ -283,7 +283,9 @@ pub(crate) fn show<A: Archives>(
     store: &str,
     record: TypedNumber<'_>,
     fields: bool,
-) -> Result<(), Failure> {
+) -> Result<(), Failure>
+    ensures { OnOk result (IsLent (A.is_at archives.now store.now)) }
+{
     let message = lend(rt, archives, store, ReadMessage(record))?;
     write_message(rt, message.as_slice(), fields)
 }
@@ -294,7 +296,9 @@ pub(crate) fn why<A: Archives>(
     archives: &A,
     store: &str,
     asked: &Why<'_>,
-) -> Result<(), Failure> {
+) -> Result<(), Failure>
+    ensures { OnOk result (IsLent (A.is_at archives.now store.now)) }
+{
     let captured = lend(rt, archives, store, ReadRecord(asked.record))?;
     write_why(rt, asked, &captured)
 }
@@ -306,7 +310,9 @@ fn read_records<'a, A: Archives>(
     store: &'a str,
     choice: Choice<'a>,
     reading: &Reading<'a>,
-) -> Result<(), Failure> {
+) -> Result<(), Failure>
+    ensures { OnOk result (IsLent (A.is_at archives.now store.now)) }
+{
     let questions = judge_choice(rt, &choice)?;
     let work = OnRecords {
         store,
@@ -464,13 +470,16 @@ fn replace_plan<'a, A: Archives>(
 }
 
 /// Begins a history, notes whether it requires reasons or that findings are accepted, or prints it.
+#[tactic(auto, using(crate::proofs::DoneLemmas::lent_as))]
 fn history<A: Archives>(
     rt: &HostRuntime,
     archives: &A,
     store: &str,
     task: HistoryTask<'_>,
     told: &Attribution<'_>,
-) -> Result<(), Failure> {
+) -> Result<(), Failure>
+    ensures { OnOk result (IsLent (A.is_at archives.now store.now)) }
+{
     match task {
         HistoryTask::Begin => begin(rt, archives, store, Author::of(rt, told)?),
         HistoryTask::Reasons(reasons) => {
@@ -485,7 +494,7 @@ fn history<A: Archives>(
 }
 
 /// Does what a command line asks for with the archive of the store at its path.
-#[tactic(auto, using(crate::proofs::DoneLemmas::nothing_said))]
+#[tactic(auto, using(crate::proofs::DoneLemmas::nothing_said, crate::proofs::DoneLemmas::lent_as))]
 fn execute_at<'a, A: Archives>(
     rt: &'a HostRuntime,
     archives: &A,

@@ -1,5 +1,8 @@
 //! Titles of classes, which the history of an archive keeps.
 
+ghost use Rattle.std.specs.Prelude.{OnOk};
+ghost use Rattle.cli_tasks.specs.Works.{IsLent};
+
 use crate::archives::{Archives, Work, lend};
 use cli_changes::{read_titles, set_titles};
 use cli_console::{Failure, tell_words, write_text};
@@ -48,7 +51,9 @@ pub fn give_titles<A: Archives>(
     store: &str,
     path: &str,
     author: Author<'_>,
-) -> Result<(), Failure> {
+) -> Result<(), Failure>
+    ensures { OnOk result (IsLent (A.is_at archives.now store.now)) }
+{
     author.named(rt)?;
     let text = read_titles(rt, path)?;
     let work = SetTitles {

@@ -1,0 +1,5 @@
+use Rattle.cli_tasks.proofs.DoneLemmas.{on_any}
+use Rattle.cli_tasks.proofs.beginnings.accept_found.Goals as goal
+
+pub returns : goal.returns
+returns g c = on_any _ c.in_ok-number.ensures
