@@ -1,5 +1,6 @@
 pub mod Typed
 pub mod Questions
+pub mod Reads
 pub mod Holds
 pub mod Disposals
 pub mod Headers

@@ -24,12 +24,17 @@ pub enum QuestionsFault {
 }
 
 /// What is asked of the messages of records.
-#[derive(Drop)]
 pub struct Questions {
     /// A test of a rule.
     test: Option<TestQuestion>,
     /// Texts in fields.
     fields: Option<FieldQuestion>,
+}
+
+impl Drop for Questions {
+    fn drop(self) {
+        let Questions { test: _, fields: _ } = self;
+    }
 }
 
 /// What a message answers.

@@ -1,6 +1,7 @@
 //! The records of a choice with what is asked of their messages, page by page.
 
 ghost use Rattle.std.specs.Prelude.{◌≡◌, ◌≤◌, ◌<◌, ◌++◌, [], map, filter, Some, IfOk, IfSome, OnOk, if◌then◌else◌};
+ghost use Rattle.cli_choice.specs.Reads.{IsReadOf};
 ghost use Rattle.record_archive.specs.Archive.{Archive};
 ghost use Rattle.record_choice.specs.Entries.{entry_view};
 ghost use Rattle.record_choice.specs.Reads.{OnlyReads};
@@ -127,15 +128,15 @@ fn reading_of<R: Repository>(
     entry: &RecordEntry,
 ) -> Result<Reading, WalkFault<R::Fault>>
     ensures reads { OnlyReads R.clean R.stands records.old records.new }
-    ensures found { IfOk result (λ x. R.clean records.new → (a : Archive) → R.stands records.old a
-        → is_found_answer x.answer
-        ≡ shows_answer a (is_found questions.now) (entry_view entry.now)) }
-    ensures unread { IfOk result (λ x. R.clean records.new → (a : Archive) → R.stands records.old a
-        → is_unread_answer x.answer
-        ≡ shows_answer a (is_missed questions.now) (entry_view entry.now)) }
-    ensures headers { IfOk result (λ x. R.clean records.new → (a : Archive) → R.stands records.old a
-        → texts_if x.headers
-        ≡ texts_found a beside (kept_if (is_found_answer x.answer) (entry_view entry.now))) }
+    ensures found { IfOk result (λ x. IsReadOf R.clean R.stands records.old records.new
+        (λ a. is_found_answer x.answer
+        ≡ shows_answer a (is_found questions.now) (entry_view entry.now))) }
+    ensures unread { IfOk result (λ x. IsReadOf R.clean R.stands records.old records.new
+        (λ a. is_unread_answer x.answer
+        ≡ shows_answer a (is_missed questions.now) (entry_view entry.now))) }
+    ensures headers { IfOk result (λ x. IsReadOf R.clean R.stands records.old records.new
+        (λ a. texts_if x.headers
+        ≡ texts_found a beside (kept_if (is_found_answer x.answer) (entry_view entry.now)))) }
 {
     if entry.destroyed {
         return Ok(Reading {
@@ -162,14 +163,14 @@ fn part<R: Repository>(
     entries: Vec<RecordEntry>,
 ) -> Result<Parts, WalkFault<R::Fault>>
     ensures reads { OnlyReads R.clean R.stands records.old records.new }
-    ensures found { IfOk result (λ p. R.clean records.new → (a : Archive) → R.stands records.old a
-        → map entry_view p.found.items ≡
-        filter (shows_answer a (is_found questions.now)) (map entry_view entries.items)) }
-    ensures unread { IfOk result (λ p. R.clean records.new → (a : Archive) → R.stands records.old a
-        → map entry_view p.unread.items ≡
-        filter (shows_answer a (is_missed questions.now)) (map entry_view entries.items)) }
-    ensures headers { IfOk result (λ p. R.clean records.new → (a : Archive) → R.stands records.old a
-        → map texts_view p.headers.items ≡ texts_found a beside (map entry_view p.found.items)) }
+    ensures found { IfOk result (λ p. IsReadOf R.clean R.stands records.old records.new
+        (λ a. map entry_view p.found.items ≡
+        filter (shows_answer a (is_found questions.now)) (map entry_view entries.items))) }
+    ensures unread { IfOk result (λ p. IsReadOf R.clean R.stands records.old records.new
+        (λ a. map entry_view p.unread.items ≡
+        filter (shows_answer a (is_missed questions.now)) (map entry_view entries.items))) }
+    ensures headers { IfOk result (λ p. IsReadOf R.clean R.stands records.old records.new
+        (λ a. map texts_view p.headers.items ≡ texts_found a beside (map entry_view p.found.items))) }
 {
     let mut parts = Parts {
         found: Vec::new(alloc),
@@ -198,21 +199,21 @@ pub fn search_page<R: Repository>(
     ensures reads { OnlyReads R.clean R.stands records.old records.new }
 
     // What is found is a page of the records that meet the choice and have all that is asked.
-    ensures found { IfOk result (λ p. R.clean records.new → (a : Archive) → R.stands records.old a
-        → IsPageOf (question_of questions.now) (choice_view choice.now) a (Some from)
-        (map entry_view p.found.items) p.next) }
+    ensures found { IfOk result (λ p. IsReadOf R.clean R.stands records.old records.new
+        (λ a. IsPageOf (question_of questions.now) (choice_view choice.now) a (Some from)
+        (map entry_view p.found.items) p.next)) }
 
     // Beside it is a page of those that meet the choice and may have it.
-    ensures unread { IfOk result (λ p. R.clean records.new → (a : Archive) → R.stands records.old a
-        → IsPageOf (Some (is_missed questions.now)) (choice_view choice.now) a (Some from)
-        (map entry_view p.unread.items) p.next) }
+    ensures unread { IfOk result (λ p. IsReadOf R.clean R.stands records.old records.new
+        (λ a. IsPageOf (Some (is_missed questions.now)) (choice_view choice.now) a (Some from)
+        (map entry_view p.unread.items) p.next)) }
 
     // What the headers say that are asked for, of the messages that are read.
-    ensures headers { IfOk result (λ p. R.clean records.new → (a : Archive) → R.stands records.old a
-        → map texts_view p.headers.items ≡ (if asks_nothing questions.now then []
-        else texts_found a beside (map entry_view p.found.items))) }
-    ensures on { IfOk result (λ p. R.clean records.new → (a : Archive) → R.stands records.old a
-        → IfSome p.next (λ n. from < n)) }
+    ensures headers { IfOk result (λ p. IsReadOf R.clean R.stands records.old records.new
+        (λ a. map texts_view p.headers.items ≡ (if asks_nothing questions.now then []
+        else texts_found a beside (map entry_view p.found.items)))) }
+    ensures on { IfOk result (λ p. IsReadOf R.clean R.stands records.old records.new
+        (λ a. IfSome p.next (λ n. from < n))) }
 {
     let page = choose_page(alloc, records, choice, None::<&Anything>, from, most)?;
     if questions.is_nothing() {

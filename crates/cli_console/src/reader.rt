@@ -1,6 +1,7 @@
 //! Who takes the records that are found.
 
 ghost use Rattle.std.specs.Prelude.{◌∷◌, ◌++◌, [], List, IfSome, OnOk};
+ghost use Rattle.cli_choice.specs.Reads.{IsReadOf};
 ghost use Rattle.record_archive.specs.Archive.{Archive};
 ghost use Rattle.record_choice.specs.Reads.{OnlyReads};
 ghost use Rattle.record_choice.specs.declared.entry.RecordEntry.{RecordEntry};
@@ -25,9 +26,9 @@ pub trait Reader {
         headers: Option<&Headers>,
     ) -> Result<(), Failure>
         ensures reads { OnlyReads R.clean R.stands archive.old archive.new }
-        ensures taken { OnOk result (R.clean archive.new → (a : Archive) → R.stands archive.old a
-            → IsToldBeside a entry.now headers.entry
-            → takes self.old a (entry.now ∷ []) self.new) };
+        ensures taken { OnOk result (IsReadOf R.clean R.stands archive.old archive.new
+            (λ a. IsToldBeside a entry.now headers.entry
+            → takes self.old a (entry.now ∷ []) self.new)) };
 
     /// Rests, once it has taken what a step of the search found. A failure ends the reading.
     fn rest(&mut self) -> Result<(), Failure>
@@ -50,8 +51,8 @@ pub(crate) fn take_page<R: Repository<Fault = StoreFault>, K: Reader>(
     headers: &[Headers],
 ) -> Result<(), Failure>
     ensures reads { OnlyReads R.clean R.stands archive.old archive.new }
-    ensures taken { OnOk result (R.clean archive.new → (a : Archive) → R.stands archive.old a
-        → AreBeside a entries.now headers.now → K.takes reader.old a entries.now reader.new) }
+    ensures taken { OnOk result (IsReadOf R.clean R.stands archive.old archive.new
+        (λ a. AreBeside a entries.now headers.now → K.takes reader.old a entries.now reader.new)) }
 {
     for (at, entry) in entries.iter().enumerate() {
         reader.take(archive, entry, headers.get(at))?;

@@ -1,6 +1,7 @@
 //! How readers take all that is found.
 
 ghost use Rattle.std.specs.Prelude.{◌≡◌, ◌≤◌, ◌++◌, map, IfOk, OnOk};
+ghost use Rattle.cli_choice.specs.Reads.{IsReadOf};
 ghost use Rattle.record_archive.specs.Archive.{Archive};
 ghost use Rattle.record_choice.specs.Entries.{entry_view};
 ghost use Rattle.record_choice.specs.Reads.{OnlyReads};
@@ -26,10 +27,10 @@ impl Search<'_, '_> {
     ) -> Result<(), Failure>
         requires { IsBounded self.old }
         ensures reads { OnlyReads R.clean R.stands archive.old archive.new }
-        ensures taken { OnOk result (R.clean archive.new → (a : Archive) → R.stands archive.old a
-            → TakesThese K.takes reader.old a (found_ahead self.old a) reader.new) }
-        ensures ended { OnOk result (R.clean archive.new → (a : Archive) → R.stands archive.old a
-            → IsAtEnd self.old a self.new) }
+        ensures taken { OnOk result (IsReadOf R.clean R.stands archive.old archive.new
+            (λ a. TakesThese K.takes reader.old a (found_ahead self.old a) reader.new)) }
+        ensures ended { OnOk result (IsReadOf R.clean R.stands archive.old archive.new
+            (λ a. IsAtEnd self.old a self.new)) }
     {
         self.read(rt, archive, Beside::Nothing, PAGE, reader)
     }
@@ -43,10 +44,10 @@ impl Search<'_, '_> {
     ) -> Result<(), Failure>
         requires { IsBounded self.old }
         ensures reads { OnlyReads R.clean R.stands archive.old archive.new }
-        ensures taken { OnOk result (R.clean archive.new → (a : Archive) → R.stands archive.old a
-            → TakesThese K.takes reader.old a (found_ahead self.old a) reader.new) }
-        ensures ended { OnOk result (R.clean archive.new → (a : Archive) → R.stands archive.old a
-            → IsAtEnd self.old a self.new) }
+        ensures taken { OnOk result (IsReadOf R.clean R.stands archive.old archive.new
+            (λ a. TakesThese K.takes reader.old a (found_ahead self.old a) reader.new)) }
+        ensures ended { OnOk result (IsReadOf R.clean R.stands archive.old archive.new
+            (λ a. IsAtEnd self.old a self.new)) }
     {
         self.read(rt, archive, Beside::Headers, HEADERS_PAGE, reader)
     }
@@ -60,13 +61,12 @@ impl Search<'_, '_> {
     ) -> Result<Option<Vec<RecordEntry>>, Failure>
         requires { IsBounded self.old }
         ensures reads { OnlyReads R.clean R.stands archive.old archive.new }
-        ensures first { IfOk result (λ o. R.clean archive.new → (a : Archive)
-            → R.stands archive.old a
-            → IsFirst (found_ahead self.old a) (page_view o) (found_ahead self.new a)) }
+        ensures first { IfOk result (λ o. IsReadOf R.clean R.stands archive.old archive.new
+            (λ a. IsFirst (found_ahead self.old a) (page_view o) (found_ahead self.new a))) }
         ensures bounded { OnOk result (IsBounded self.new) }
         ensures typed { OnOk result (self.new.typed.now ≡ self.old.typed.now) }
-        ensures noted { OnOk result (R.clean archive.new → (a : Archive) → R.stands archive.old a
-            → noted_at_end self.new a ≡ noted_at_end self.old a) }
+        ensures noted { OnOk result (IsReadOf R.clean R.stands archive.old archive.new
+            (λ a. noted_at_end self.new a ≡ noted_at_end self.old a)) }
     {
         for _ in 0..u64::MAX {
             let Some(page) = self.step(rt, archive, Beside::Nothing, PAGE)? else {
@@ -89,11 +89,11 @@ impl Search<'_, '_> {
     ) -> Result<(), Failure>
         requires { IsBounded self.old }
         ensures reads { OnlyReads R.clean R.stands archive.old archive.new }
-        ensures taken { OnOk result (R.clean archive.new → (a : Archive) → R.stands archive.old a
-            → TakesThese K.takes reader.old a
-            (map entry_view first.now ++ found_ahead self.old a) reader.new) }
-        ensures ended { OnOk result (R.clean archive.new → (a : Archive) → R.stands archive.old a
-            → IsAtEnd self.old a self.new) }
+        ensures taken { OnOk result (IsReadOf R.clean R.stands archive.old archive.new
+            (λ a. TakesThese K.takes reader.old a
+            (map entry_view first.now ++ found_ahead self.old a) reader.new)) }
+        ensures ended { OnOk result (IsReadOf R.clean R.stands archive.old archive.new
+            (λ a. IsAtEnd self.old a self.new)) }
     {
         take_page(archive, reader, first, &[])?;
         self.read_found(rt, archive, reader)
@@ -111,10 +111,10 @@ impl Search<'_, '_> {
         requires some { 1 ≤ most }
         requires bounded { IsBounded self.old }
         ensures reads { OnlyReads R.clean R.stands archive.old archive.new }
-        ensures taken { OnOk result (R.clean archive.new → (a : Archive) → R.stands archive.old a
-            → TakesThese K.takes reader.old a (found_ahead self.old a) reader.new) }
-        ensures ended { OnOk result (R.clean archive.new → (a : Archive) → R.stands archive.old a
-            → IsAtEnd self.old a self.new) }
+        ensures taken { OnOk result (IsReadOf R.clean R.stands archive.old archive.new
+            (λ a. TakesThese K.takes reader.old a (found_ahead self.old a) reader.new)) }
+        ensures ended { OnOk result (IsReadOf R.clean R.stands archive.old archive.new
+            (λ a. IsAtEnd self.old a self.new)) }
     {
         for _ in 0..u64::MAX {
             let Some(page) = self.step(rt, archive, beside, most)? else {
@@ -140,8 +140,8 @@ pub fn read_chosen<R: Repository<Fault = StoreFault>, K: Reader>(
     reader: &mut K,
 ) -> Result<(), Failure>
     ensures reads { OnlyReads R.clean R.stands archive.old archive.new }
-    ensures taken { OnOk result (R.clean archive.new → (a : Archive) → R.stands archive.old a
-        → TakesThese K.takes reader.old a (chosen_in choice.now a) reader.new) }
+    ensures taken { OnOk result (IsReadOf R.clean R.stands archive.old archive.new
+        (λ a. TakesThese K.takes reader.old a (chosen_in choice.now a) reader.new)) }
 {
     let mut walk = Walk::from(choice, 1);
     for _ in 0..u64::MAX {

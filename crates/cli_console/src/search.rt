@@ -1,6 +1,7 @@
 //! A search for the records that a command is about. Which these are, `cli_choice` decides.
 
 ghost use Rattle.std.specs.Prelude.{◌≡◌, ◌≤◌, ◌++◌, ◌∷◌, ℕ, [], map, nat_le, option_map, IfErr, IfOk, IfSome, OnOk, if◌then◌else◌};
+ghost use Rattle.cli_choice.specs.Reads.{IsReadOf};
 ghost use Rattle.record_archive.specs.Archive.{Archive, IsArchive};
 ghost use Rattle.record_choice.specs.Entries.{entry_view};
 ghost use Rattle.record_choice.specs.Reads.{OnlyReads};
@@ -218,18 +219,18 @@ impl<'s, 'a> Search<'s, 'a> {
 
         // The calls answer the pages of a walk: what meets the choice and the questions, and no
         // other record.
-        ensures page { IfOk result (λ o. R.clean archive.new → (a : Archive)
-            → R.stands archive.old a → IsSearchTurn (question_of self.old.questions.now)
+        ensures page { IfOk result (λ o. IsReadOf R.clean R.stands archive.old archive.new
+            (λ a. IsSearchTurn (question_of self.old.questions.now)
             (choice_view self.old.choice) a self.old.last self.old.from
-            (page_view (option_map (λ p. p.found) o)) self.new.from) }
+            (page_view (option_map (λ p. p.found) o)) self.new.from)) }
         ensures same { OnOk result (IsSameSearch self.old self.new) }
         ensures noted { IfOk result (λ o. self.new.found.items ≡ self.old.found.items
             ++ singles_among self.old.typed.now.numbers.items
             (records_of (page_view (option_map (λ p. p.found) o)))) }
-        ensures headers { IfOk result (λ o. R.clean archive.new → (a : Archive)
-            → R.stands archive.old a → IfSome o (λ p. map texts_view p.headers.items ≡
+        ensures headers { IfOk result (λ o. IsReadOf R.clean R.stands archive.old archive.new
+            (λ a. IfSome o (λ p. map texts_view p.headers.items ≡
             (if asks_nothing self.old.questions.now then []
-            else texts_found a beside (map entry_view p.found.items)))) }
+            else texts_found a beside (map entry_view p.found.items))))) }
     {
         let Some(from) = self.from else {
             return Ok(None);

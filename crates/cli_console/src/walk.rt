@@ -1,6 +1,7 @@
 //! A walk over the chosen records of an archive. Which these are, `record_choice` decides.
 
 ghost use Rattle.std.specs.Prelude.{◌≡◌, Some, None, Ok, IfOk};
+ghost use Rattle.cli_choice.specs.Reads.{IsReadOf};
 ghost use Rattle.record_archive.specs.Archive.{Archive, message};
 ghost use Rattle.record_choice.specs.Reads.{OnlyReads};
 ghost use Rattle.record_choice.specs.Views.{choice_view};
@@ -52,9 +53,9 @@ impl<'a> Walk<'a> {
         ensures reads { OnlyReads R.clean R.stands archive.old archive.new }
 
         // The calls answer the pages of a walk: what is chosen, and no other record.
-        ensures page { IfOk result (λ o. R.clean archive.new → (a : Archive)
-            → R.stands archive.old a → IsTurn None (choice_view self.old.choice.now) a
-            self.old.from (page_view o) self.new.from) }
+        ensures page { IfOk result (λ o. IsReadOf R.clean R.stands archive.old archive.new
+            (λ a. IsTurn None (choice_view self.old.choice.now) a
+            self.old.from (page_view o) self.new.from)) }
         ensures same { self.new.choice.now ≡ self.old.choice.now }
     {
         let Some(from) = self.from else {
@@ -81,8 +82,8 @@ pub fn message_of<R: Repository<Fault = StoreFault>>(
     entry: &RecordEntry,
 ) -> Result<Vec<u8>, Failure>
     ensures reads { OnlyReads R.clean R.stands archive.old archive.new }
-    ensures told { IfOk result (λ v. R.clean archive.new → (a : Archive) → R.stands archive.old a
-        → message a entry.now.number ≡ Ok (Some v.items)) }
+    ensures told { IfOk result (λ v. IsReadOf R.clean R.stands archive.old archive.new
+        (λ a. message a entry.now.number ≡ Ok (Some v.items))) }
 {
     archive
         .message(entry.number)

@@ -6,7 +6,6 @@ pub mod Exports
 pub mod Groups
 pub mod Lists
 pub mod Parts
-pub mod Reads
 pub mod Reports
 pub mod Shows
 pub mod Twice

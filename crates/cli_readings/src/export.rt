@@ -8,7 +8,7 @@ ghost use Rattle.cli_console.specs.declared.failure.Status.TheVariants.{BadData}
 ghost use Rattle.cli_history.specs.Walks.{Glances};
 ghost use Rattle.cli_readings.specs.Ends.{IsEnded};
 ghost use Rattle.cli_readings.specs.Exports.{ExportsFound, exported_text};
-ghost use Rattle.cli_readings.specs.Reads.{IsReadOf};
+ghost use Rattle.cli_choice.specs.Reads.{IsReadOf};
 
 use crate::conditions::conditions_of;
 use crate::destination::{Destination, Folder, INDEX, Noted};

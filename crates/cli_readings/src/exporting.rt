@@ -4,7 +4,7 @@ ghost use Rattle.std.specs.Prelude.{◌≡◌, false, None, Some, IfOk, OnOk, op
 ghost use Rattle.std.specs.Option.{option_copied};
 ghost use Rattle.record_choice.specs.Reads.{OnlyReads};
 ghost use Rattle.cli_texts.specs.Rows.{last_fields};
-ghost use Rattle.cli_readings.specs.Reads.{IsReadOf};
+ghost use Rattle.cli_choice.specs.Reads.{IsReadOf};
 ghost use Rattle.cli_readings.specs.Shows.{is_unaltered};
 ghost use Rattle.cli_readings.specs.Exports.{are_captured, sum_line};
 ghost use Rattle.cli_readings.specs.Exporting.{Exports, HandsOver, HandsOverSome, IsExported, IsListed, IsListedAs, IsMet, IsNew, IsOf, TurnsTo, file_parts, is_met, letter_of, met_fields, more_exported, no_count, none_exported, noted_for, written_fields, written_of};

@@ -5,7 +5,7 @@ ghost use Rattle.record_choice.specs.Reads.{OnlyReads};
 ghost use Rattle.cli_console.specs.Finds.{TakesThese};
 ghost use Rattle.cli_readings.specs.Checks.{AreNone, CountsMessages, CountsUnless, Counts, NotesSeal, TellsContents, contents_text, count_line, every_entry, is_kept, is_live_and_due, is_passed, more_counted, no_figures, none_counted, together, totals_of, totals_text, volumes_text, with_records};
 ghost use Rattle.cli_console.specs.Sinks.{Writes};
-ghost use Rattle.cli_readings.specs.Reads.{IsReadOf};
+ghost use Rattle.cli_choice.specs.Reads.{IsReadOf};
 
 use class_plan::Date;
 use cli_console::{

@@ -10,7 +10,7 @@ ghost use Rattle.cli_readings.specs.Ends.{IsEnded};
 ghost use Rattle.cli_readings.specs.Lists.{HasText, IsHeaderOf, IsRowOf, IsTextOf, Lists, PushesRow, WritesList, end_of, head_of, more_listed, none_listed};
 ghost use Rattle.cli_console.specs.Sequences.{between};
 ghost use Rattle.cli_console.specs.Sinks.{Writes};
-ghost use Rattle.cli_readings.specs.Reads.{IsReadOf};
+ghost use Rattle.cli_choice.specs.Reads.{IsReadOf};
 
 use cli_choice::Questions;
 use cli_console::{Failure, Reader, Search, Sink, StandardOutput, message_of, text_between};

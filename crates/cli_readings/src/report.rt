@@ -4,7 +4,7 @@ ghost use Rattle.std.specs.Prelude.{◌≡◌, IfOk, IfSome, is_none, not};
 ghost use Rattle.record_choice.specs.Reads.{OnlyReads};
 ghost use Rattle.cli_console.specs.Headers.{AreTextsOf};
 ghost use Rattle.cli_readings.specs.Checks.{is_live_and_due};
-ghost use Rattle.cli_readings.specs.Reads.{IsReadOf};
+ghost use Rattle.cli_choice.specs.Reads.{IsReadOf};
 ghost use Rattle.cli_readings.specs.Reports.{IsRecordOf, IsReportBy, ReportsMore, more_reports, none_reports};
 
 use crate::conditions::conditions_of;

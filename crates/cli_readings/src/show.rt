@@ -5,7 +5,7 @@ ghost use Rattle.record_archive.specs.Archive.{message};
 ghost use Rattle.record_choice.specs.Reads.{OnlyReads};
 ghost use Rattle.record_history.specs.Replay.{seal};
 ghost use Rattle.cli_history.specs.Seals.{fidelity, known};
-ghost use Rattle.cli_readings.specs.Reads.{IsReadOf};
+ghost use Rattle.cli_choice.specs.Reads.{IsReadOf};
 ghost use Rattle.cli_readings.specs.Shows.{IsEntryOf, is_unaltered};
 
 use cli_console::{Failure, Status, write_data, write_text};

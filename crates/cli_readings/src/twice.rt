@@ -5,7 +5,7 @@ ghost use Rattle.record_choice.specs.Reads.{OnlyReads};
 ghost use Rattle.cli_history.specs.Seals.{known};
 ghost use Rattle.cli_readings.specs.Groups.{key_of, records_of};
 ghost use Rattle.cli_readings.specs.Lists.{PushesRow};
-ghost use Rattle.cli_readings.specs.Reads.{IsReadOf};
+ghost use Rattle.cli_choice.specs.Reads.{IsReadOf};
 ghost use Rattle.cli_readings.specs.Shows.{IsEntryOf};
 ghost use Rattle.cli_readings.specs.Twice.{
   AddsBeside,

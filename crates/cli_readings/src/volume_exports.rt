@@ -5,7 +5,7 @@ ghost use Rattle.record_choice.specs.Reads.{OnlyReads};
 ghost use Rattle.cli_console.specs.Finds.{TakesThese, found_in};
 ghost use Rattle.cli_history.specs.Walks.{Glances};
 ghost use Rattle.cli_readings.specs.Ends.{IsEnded};
-ghost use Rattle.cli_readings.specs.Reads.{IsReadOf};
+ghost use Rattle.cli_choice.specs.Reads.{IsReadOf};
 ghost use Rattle.cli_readings.specs.VolumeExports.{Begins, ExportsIn, ExportsVolume, HasAsMuch, HasExported, IsBegunBy, IsNothing, out_of, share_of};
 
 use crate::conditions::conditions_over;

@@ -4,7 +4,7 @@ ghost use Rattle.std.specs.Prelude.{IfOk, OnOk};
 ghost use Rattle.record_choice.specs.Reads.{OnlyReads};
 ghost use Rattle.cli_console.specs.Finds.{TakesThese, found_in};
 ghost use Rattle.cli_readings.specs.Ends.{IsEnded};
-ghost use Rattle.cli_readings.specs.Reads.{IsReadOf};
+ghost use Rattle.cli_choice.specs.Reads.{IsReadOf};
 ghost use Rattle.cli_readings.specs.Reports.{IsReportBy};
 ghost use Rattle.cli_readings.specs.VolumeReports.{ReportsVolume, reported_of};
 

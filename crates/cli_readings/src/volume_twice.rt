@@ -8,7 +8,7 @@ ghost use Rattle.command_lines.specs.declared.archives.Listing.{Listing as Asked
 ghost use Rattle.record_archive.specs.Archive.{Archive};
 ghost use Rattle.record_choice.specs.Reads.{OnlyReads};
 ghost use Rattle.cli_readings.specs.Groups.{KeyedGroup, records_of};
-ghost use Rattle.cli_readings.specs.Reads.{IsReadOf};
+ghost use Rattle.cli_choice.specs.Reads.{IsReadOf};
 ghost use Rattle.cli_readings.specs.Twice.{AddsGroups, IsBeside};
 ghost use Rattle.cli_readings.specs.VolumeLists.{in_volume};
 ghost use Rattle.cli_readings.specs.VolumeTwice.{
