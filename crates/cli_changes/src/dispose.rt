@@ -4,6 +4,7 @@ ghost use Rattle.std.specs.Prelude.{◌≡◌, [], false, true, is_ok, IfOk, IfS
 ghost use Rattle.cli_console.specs.Sinks.{Writes};
 ghost use Rattle.std.specs.List.{AllByRecursion};
 ghost use Rattle.jiff.specs.Words.{epoch_day};
+ghost use Rattle.cli_choice.specs.Reads.{IsReadOf};
 ghost use Rattle.record_archive.specs.Archive.{Archive};
 ghost use Rattle.record_choice.specs.Disposals.{asked_list};
 ghost use Rattle.record_choice.specs.Reads.{OnlyReads};
@@ -44,9 +45,8 @@ fn meant_in<R: Repository<Fault = StoreFault>>(
     day: Date,
 ) -> Result<Meant, Failure>
     ensures reads { OnlyReads R.clean R.stands archive.old archive.new }
-    ensures told { IfOk result (λ meant. R.clean archive.new → (a : Archive)
-        → R.stands archive.old a
-        → IsMeant typed.now (asked_list a (epoch_day day) []) meant) }
+    ensures told { IfOk result (λ meant. IsReadOf R.clean R.stands archive.old archive.new
+        (λ a. IsMeant typed.now (asked_list a (epoch_day day) []) meant)) }
 {
     match asked_lines(rt.alloc(), archive, &[], day) {
         Ok(lines) => Ok(meant_of(rt.alloc(), typed, lines)?),
@@ -63,9 +63,8 @@ fn meant_by<R: Repository<Fault = StoreFault>>(
     day: Date,
 ) -> Result<Meant, Failure>
     ensures reads { OnlyReads R.clean R.stands archive.old archive.new }
-    ensures told { IfOk result (λ meant. R.clean archive.new → (a : Archive)
-        → R.stands archive.old a
-        → IsMeant typed.now (asked_list a (epoch_day day) []) meant) }
+    ensures told { IfOk result (λ meant. IsReadOf R.clean R.stands archive.old archive.new
+        (λ a. IsMeant typed.now (asked_list a (epoch_day day) []) meant)) }
 {
     tell_passed_over(rt, archive, volume, typed, day)?;
     meant_in(rt, archive, volume, typed, day)
@@ -134,9 +133,8 @@ fn read_asked<R: Repository<Fault = StoreFault>>(
     day: Date,
 ) -> Result<Asked, Failure>
     ensures reads { OnlyReads R.clean R.stands archive.old archive.new }
-    ensures told { IfOk result (λ asked. R.clean archive.new → (a : Archive)
-        → R.stands archive.old a
-        → IsAskedFor seals.now a (epoch_day day) numbers.now asked) }
+    ensures told { IfOk result (λ asked. IsReadOf R.clean R.stands archive.old archive.new
+        (λ a. IsAskedFor seals.now a (epoch_day day) numbers.now asked)) }
     ensures filled { IfOk result (λ asked. AreFilled asked.runs.items) }
     ensures altered { IfOk result (λ asked. asked.altered.items ≡ altered_of asked.runs.items) }
 {
@@ -168,9 +166,8 @@ fn approved_runs<R: Repository<Fault = StoreFault>>(
     day: Date,
 ) -> Result<Vec<Run>, Failure>
     ensures reads { OnlyReads R.clean R.stands archive.old archive.new }
-    ensures these { IfOk result (λ runs. R.clean archive.new → (a : Archive)
-        → R.stands archive.old a
-        → AreApproved seals.now damage a (epoch_day day) numbers.now (records_of runs.items)) }
+    ensures these { IfOk result (λ runs. IsReadOf R.clean R.stands archive.old archive.new
+        (λ a. AreApproved seals.now damage a (epoch_day day) numbers.now (records_of runs.items))) }
     ensures filled { IfOk result (λ runs. AreFilled runs.items) }
 {
     let Asked { runs, altered, .. } = read_asked(rt, archive, volume, seals, numbers, day)?;
@@ -250,11 +247,11 @@ fn list_asked<R: Repository<Fault = StoreFault>, K: Sink>(
     sink: &mut K,
 ) -> Result<Asked, Failure>
     ensures reads { OnlyReads R.clean R.stands archive.old archive.new }
-    ensures told { IfOk result (λ asked. R.clean archive.new → (a : Archive)
-        → R.stands archive.old a
-        → IsAskedFor seals.now a (epoch_day day) numbers.now asked) }
-    ensures listed { OnOk result (R.clean archive.new → (a : Archive) → R.stands archive.old a
-        → ListsAsked K.written volume seals.now a (epoch_day day) numbers.now sink.old sink.new) }
+    ensures told { IfOk result (λ asked. IsReadOf R.clean R.stands archive.old archive.new
+        (λ a. IsAskedFor seals.now a (epoch_day day) numbers.now asked)) }
+    ensures listed { OnOk result (IsReadOf R.clean R.stands archive.old archive.new
+        (λ a. ListsAsked K.written volume seals.now a (epoch_day day) numbers.now sink.old
+        sink.new)) }
 {
     let asked = read_asked(rt, archive, volume, seals, numbers, day)?;
     write_lines(
@@ -278,11 +275,10 @@ fn write_asked<R: Repository<Fault = StoreFault>>(
     day: Date,
 ) -> Result<bool, Failure>
     ensures reads { OnlyReads R.clean R.stands archive.old archive.new }
-    ensures any { IfOk result (λ is_any. R.clean archive.new → (a : Archive)
-        → R.stands archive.old a
-        → is_any ≡ are_any (numbers_of (asked_list a (epoch_day day) numbers.now))) }
-    ensures may_go { OnOk result (R.clean archive.new → (a : Archive) → R.stands archive.old a
-        → AllByRecursion (MayGo a (epoch_day day)) numbers.now) }
+    ensures any { IfOk result (λ is_any. IsReadOf R.clean R.stands archive.old archive.new
+        (λ a. is_any ≡ are_any (numbers_of (asked_list a (epoch_day day) numbers.now)))) }
+    ensures may_go { OnOk result (IsReadOf R.clean R.stands archive.old archive.new
+        (λ a. AllByRecursion (MayGo a (epoch_day day)) numbers.now)) }
 {
     let mut output = StandardOutput::new(rt);
     let asked = list_asked(rt, archive, volume, seals, numbers, day, &mut output)?;
@@ -302,11 +298,11 @@ fn judge_asked<R: Repository<Fault = StoreFault>>(
     day: Date,
 ) -> Result<(), Failure>
     ensures reads { OnlyReads R.clean R.stands archive.old archive.new }
-    ensures may_go { OnOk result (R.clean archive.new → (a : Archive) → R.stands archive.old a
-        → AllByRecursion (MayGo a (epoch_day day)) numbers.now) }
-    ensures unaltered { OnOk result (R.clean archive.new → (a : Archive) → R.stands archive.old a
-        → damage ≡ Refused → AllByRecursion (IsUnaltered seals.now a)
-        (numbers_of (asked_list a (epoch_day day) numbers.now))) }
+    ensures may_go { OnOk result (IsReadOf R.clean R.stands archive.old archive.new
+        (λ a. AllByRecursion (MayGo a (epoch_day day)) numbers.now)) }
+    ensures unaltered { OnOk result (IsReadOf R.clean R.stands archive.old archive.new
+        (λ a. damage ≡ Refused → AllByRecursion (IsUnaltered seals.now a)
+        (numbers_of (asked_list a (epoch_day day) numbers.now)))) }
 {
     let Asked { altered, .. } = read_asked(rt, archive, volume, seals, numbers, day)?;
     match damage {
@@ -401,8 +397,8 @@ pub fn judge_disposal<R: Repository<Fault = StoreFault>>(
     day: Date,
 ) -> Result<(), Failure>
     ensures reads { OnlyReads R.clean R.stands archive.old archive.new }
-    ensures may_begin { OnOk result (R.clean archive.new → (a : Archive) → R.stands archive.old a
-        → MayBegin seals.now asked.now a (epoch_day day)) }
+    ensures may_begin { OnOk result (IsReadOf R.clean R.stands archive.old archive.new
+        (λ a. MayBegin seals.now asked.now a (epoch_day day))) }
 {
     let damage = damage_of(asked);
     let meant = meant_in(rt, archive, volume, asked.numbers.as_slice(), day)?;

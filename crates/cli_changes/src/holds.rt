@@ -1,6 +1,7 @@
 //! `hold` and `release`: records that must not be destroyed.
 
 ghost use Rattle.std.specs.Prelude.{◌≡◌, ◌||◌, ◌∷◌, ◌++◌, [], true, false, not, IfOk, OnErr, OnOk};
+ghost use Rattle.cli_choice.specs.Reads.{IsReadOf};
 ghost use Rattle.record_archive.specs.Archive.{Archive};
 ghost use Rattle.record_archive.specs.Calls.{CarriesOut, Quietly};
 ghost use Rattle.record_choice.specs.Reads.{OnlyReads};
@@ -189,11 +190,11 @@ fn meant_of<'a, R: Repository<Fault = StoreFault>>(
 ) -> Result<Meant<'a>, Failure>
     requires { IsBounded search.old }
     ensures reads { OnlyReads R.clean R.stands archive.old archive.new }
-    ensures meant { IfOk result (λ m. R.clean archive.new → (a : Archive) → R.stands archive.old a
-        → m.numbers.items ≡ meant_numbers hold.entry.change hold.entry.name.now typed.now
-        (found_ahead search.old a)) }
-    ensures ended { IfOk result (λ m. R.clean archive.new → (a : Archive) → R.stands archive.old a
-        → IsAtEnd search.old a search.new) }
+    ensures meant { IfOk result (λ m. IsReadOf R.clean R.stands archive.old archive.new
+        (λ a. m.numbers.items ≡ meant_numbers hold.entry.change hold.entry.name.now typed.now
+        (found_ahead search.old a))) }
+    ensures ended { IfOk result (λ m. IsReadOf R.clean R.stands archive.old archive.new
+        (λ a. IsAtEnd search.old a search.new)) }
 {
     let mut meant = Meant {
         change: hold.change,
@@ -248,8 +249,8 @@ pub fn is_held_by<R: Repository<Fault = StoreFault>>(
     name: &str,
 ) -> Result<bool, Failure>
     ensures reads { OnlyReads R.clean R.stands archive.old archive.new }
-    ensures held { IfOk result (λ b. R.clean archive.new → (a : Archive) → R.stands archive.old a
-        → b ≡ is_any_of (held_by name.now a)) }
+    ensures held { IfOk result (λ b. IsReadOf R.clean R.stands archive.old archive.new
+        (λ a. b ≡ is_any_of (held_by name.now a))) }
 {
     let mut seen = Seen { is_any: false };
     read_chosen(rt, archive, &held_choice(rt.alloc(), name)?, &mut seen)?;

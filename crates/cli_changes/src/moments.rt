@@ -1,6 +1,7 @@
 //! When mail is captured: at a moment that is named, or at that of the clock, which is judged by the days of the store.
 
 ghost use Rattle.std.specs.Prelude.{◌≡◌, ◌<◌, ◌^◌, ℕ, negsuc, pos, Some, map, IfOk, IfErr, OnOk};
+ghost use Rattle.cli_choice.specs.Reads.{IsReadOf};
 ghost use Rattle.record_archive.specs.Archive.{Archive};
 ghost use Rattle.record_choice.specs.Entries.{entry_view};
 ghost use Rattle.record_choice.specs.Reads.{OnlyReads};
@@ -211,8 +212,8 @@ fn last_day<R: Repository<Fault = StoreFault>>(
     known: Option<u32>,
 ) -> Result<Option<u32>, Failure>
     ensures reads { OnlyReads R.clean R.stands archive.old archive.new }
-    ensures last { IfOk result (λ last. R.clean archive.new → (a : Archive)
-        → R.stands archive.old a → IsLast (with_day known (days_of a)) last) }
+    ensures last { IfOk result (λ last. IsReadOf R.clean R.stands archive.old archive.new
+        (λ a. IsLast (with_day known (days_of a)) last)) }
 {
     let mut days = LastDay { last: known };
     read_chosen(rt, archive, &Choice::every(), &mut days)?;
@@ -286,9 +287,8 @@ impl Timing {
     ) -> Result<(), Failure>
         ensures asked { self.new.asked ≡ self.old.asked }
         ensures reads { OnlyReads R.clean R.stands archive.old archive.new }
-        ensures last { OnOk result (R.clean archive.new → (a : Archive)
-            → R.stands archive.old a
-            → IsLookedFor self.old.asked self.old.last a self.new.last) }
+        ensures last { OnOk result (IsReadOf R.clean R.stands archive.old archive.new
+            (λ a. IsLookedFor self.old.asked self.old.last a self.new.last)) }
     {
         match self.asked {
             Moment::Unnamed => {

@@ -2,6 +2,7 @@
 
 ghost use Rattle.std.specs.Prelude.{◌≡◌, ◌∷◌, ◌++◌, [], option_map, IfOk, OnOk};
 ghost use Rattle.jiff.specs.Words.{epoch_day};
+ghost use Rattle.cli_choice.specs.Reads.{IsReadOf};
 ghost use Rattle.record_archive.specs.Archive.{Archive};
 ghost use Rattle.record_choice.specs.Entries.{entry_view};
 ghost use Rattle.record_choice.specs.Reads.{OnlyReads};
@@ -153,9 +154,8 @@ pub fn changes_by<R: Repository<Fault = StoreFault>>(
     day: Date,
 ) -> Result<PlanChanges, Failure>
     ensures reads { OnlyReads R.clean R.stands archive.old archive.new }
-    ensures changes { IfOk result (λ changes. R.clean archive.new → (a : Archive)
-        → R.stands archive.old a
-        → AreChanges a.plan plan.now (epoch_day day) (live_entries a) changes) }
+    ensures changes { IfOk result (λ changes. IsReadOf R.clean R.stands archive.old archive.new
+        (λ a. AreChanges a.plan plan.now (epoch_day day) (live_entries a) changes)) }
 {
     let mut changing = Changing {
         alloc: rt.alloc(),

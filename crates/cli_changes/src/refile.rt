@@ -2,6 +2,7 @@
 
 ghost use Rattle.std.specs.Prelude.{◌≡◌, ◌||◌, ◌∷◌, ◌++◌, [], true, false, not, IfOk, IsOk, OnErr, OnOk};
 ghost use Rattle.class_plan.specs.Plans.{has};
+ghost use Rattle.cli_choice.specs.Reads.{IsReadOf};
 ghost use Rattle.record_archive.specs.Archive.{Archive};
 ghost use Rattle.record_archive.specs.Refiling.{refile};
 ghost use Rattle.record_choice.specs.Reads.{OnlyReads};
@@ -324,11 +325,11 @@ fn take_found<R: Repository<Fault = StoreFault>>(
 ) -> Result<(), Failure>
     requires { IsBounded search.old }
     ensures reads { OnlyReads R.clean R.stands archive.old archive.new }
-    ensures moves { OnOk result (R.clean archive.new → (a : Archive) → R.stands archive.old a
-        → TakesThese (λ old b es new. AddsMoving old es new) moves.old a
-        (found_ahead search.old a) moves.new) }
-    ensures ended { OnOk result (R.clean archive.new → (a : Archive) → R.stands archive.old a
-        → IsAtEnd search.old a search.new) }
+    ensures moves { OnOk result (IsReadOf R.clean R.stands archive.old archive.new
+        (λ a. TakesThese (λ old b es new. AddsMoving old es new) moves.old a
+        (found_ahead search.old a) moves.new)) }
+    ensures ended { OnOk result (IsReadOf R.clean R.stands archive.old archive.new
+        (λ a. IsAtEnd search.old a search.new)) }
 {
     search.read_found(moves.rt, archive, moves)
 }
@@ -345,15 +346,13 @@ pub fn moves_shown<'a, R: Repository<Fault = StoreFault>>(
     questions: &Questions,
 ) -> Result<Moves<'a>, Failure>
     ensures reads { OnlyReads R.clean R.stands archive.old archive.new }
-    ensures moves { IfOk result (λ m. R.clean archive.new → (a : Archive) → R.stands archive.old a
-        → m.numbers.items ≡ moving_numbers to.now (found_in choice.now questions.now a)) }
-    ensures refused { IfOk result (λ m. m.is_refused ≡ false → R.clean archive.new
-        → (a : Archive) → R.stands archive.old a
-        → list_any (is_refused_one choice.now.numbers.items)
-        (found_in choice.now questions.now a) ≡ false) }
-    ensures found { IfOk result (λ m. m.is_refused ≡ false → R.clean archive.new
-        → (a : Archive) → R.stands archive.old a
-        → HasSingles choice.now.numbers.items (found_in choice.now questions.now a)) }
+    ensures moves { IfOk result (λ m. IsReadOf R.clean R.stands archive.old archive.new
+        (λ a. m.numbers.items ≡ moving_numbers to.now (found_in choice.now questions.now a))) }
+    ensures refused { IfOk result (λ m. m.is_refused ≡ false
+        → IsReadOf R.clean R.stands archive.old archive.new (λ a. list_any (is_refused_one choice.now.numbers.items)
+        (found_in choice.now questions.now a) ≡ false)) }
+    ensures found { IfOk result (λ m. m.is_refused ≡ false
+        → IsReadOf R.clean R.stands archive.old archive.new (λ a. HasSingles choice.now.numbers.items (found_in choice.now questions.now a))) }
 {
     let mut moves = Moves {
         rt,
@@ -534,8 +533,8 @@ fn movers_of<R: Repository<Fault = StoreFault>>(
     questions: &Questions,
 ) -> Result<Vec<u32>, Failure>
     ensures reads { OnlyReads R.clean R.stands archive.old archive.new }
-    ensures movers { IfOk result (λ v. R.clean archive.new → (a : Archive) → R.stands archive.old a
-        → v.items ≡ moving_numbers to.now (found_in choice.now questions.now a)) }
+    ensures movers { IfOk result (λ v. IsReadOf R.clean R.stands archive.old archive.new
+        (λ a. v.items ≡ moving_numbers to.now (found_in choice.now questions.now a))) }
 {
     let mut movers = Movers {
         to,

@@ -4,6 +4,7 @@ ghost use Rattle.std.specs.Prelude.{◌≡◌, ◌++◌, ◌∷◌, [], Some, ma
 ghost use Rattle.std.specs.List.{AllByRecursion};
 ghost use Rattle.std.specs.List.Sorted.{IsPermutation, IsSorted};
 ghost use Rattle.std.specs.Ordering.{nat_cmp};
+ghost use Rattle.cli_choice.specs.Reads.{IsReadOf};
 ghost use Rattle.record_archive.specs.Archive.{Archive, Record, record_at};
 ghost use Rattle.record_choice.specs.Entries.{OfRecord};
 ghost use Rattle.record_choice.specs.Reads.{OnlyReads};
@@ -100,9 +101,9 @@ fn judged_of<R: Repository<Fault = StoreFault>>(
     number: u32,
 ) -> Result<Judged, StoreFault>
     ensures reads { OnlyReads R.clean R.stands archive.old archive.new }
-    ensures told { IfOk result (λ j. R.clean archive.new → (a : Archive) → R.stands archive.old a
-        → IsJudged seals.now a last → OfRecord a number (λ r. (r.message ≡ j.message)
-        × IsFidelityOf seals.now a j.message j.fidelity)) }
+    ensures told { IfOk result (λ j. IsReadOf R.clean R.stands archive.old archive.new
+        (λ a. IsJudged seals.now a last → OfRecord a number (λ r. (r.message ≡ j.message)
+        × IsFidelityOf seals.now a j.message j.fidelity))) }
 {
     let entry = archive.entry(number)?;
     match last {
@@ -148,8 +149,8 @@ pub fn runs_of<R: Repository<Fault = StoreFault>>(
         (map (λ (l : Line). l.number) lines.now) (records_of v.items)) }
     ensures upwards { IfOk result (λ v. IsSorted nat_cmp (records_of v.items)) }
     ensures filled { IfOk result (λ v. AreFilled v.items) }
-    ensures noted { IfOk result (λ v. R.clean archive.new → (a : Archive) → R.stands archive.old a
-        → AllByRecursion (IsNoted seals.now a) (noted v.items)) }
+    ensures noted { IfOk result (λ v. IsReadOf R.clean R.stands archive.old archive.new
+        (λ a. AllByRecursion (IsNoted seals.now a) (noted v.items))) }
 {
     let numbers = numbers_of(alloc, lines)?;
     let mut runs = Vec::new(alloc);

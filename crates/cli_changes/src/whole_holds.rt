@@ -1,6 +1,7 @@
 //! `release --all`: the end of a hold on each record that has it.
 
 ghost use Rattle.std.specs.Prelude.{◌≡◌, ◌++◌, map, true, IfOk, OnErr, OnOk};
+ghost use Rattle.cli_choice.specs.Reads.{IsReadOf};
 ghost use Rattle.record_archive.specs.Archive.{Archive};
 ghost use Rattle.record_choice.specs.Entries.{entry_view};
 ghost use Rattle.record_choice.specs.Reads.{OnlyReads};
@@ -93,8 +94,8 @@ fn held_numbers<R: Repository<Fault = StoreFault>>(
     is_shown: bool,
 ) -> Result<Vec<u32>, Failure>
     ensures reads { OnlyReads R.clean R.stands archive.old archive.new }
-    ensures listed { IfOk result (λ v. R.clean archive.new → (a : Archive) → R.stands archive.old a
-        → v.items ≡ numbers_of (held_by name.now a)) }
+    ensures listed { IfOk result (λ v. IsReadOf R.clean R.stands archive.old archive.new
+        (λ a. v.items ≡ numbers_of (held_by name.now a))) }
 {
     let mut list = HeldList {
         rt,
@@ -116,8 +117,8 @@ pub fn list_held<R: Repository<Fault = StoreFault>>(
     name: &str,
 ) -> Result<Vec<u32>, Failure>
     ensures reads { OnlyReads R.clean R.stands archive.old archive.new }
-    ensures listed { IfOk result (λ v. R.clean archive.new → (a : Archive) → R.stands archive.old a
-        → v.items ≡ numbers_of (held_by name.now a)) }
+    ensures listed { IfOk result (λ v. IsReadOf R.clean R.stands archive.old archive.new
+        (λ a. v.items ≡ numbers_of (held_by name.now a))) }
 {
     held_numbers(rt, archive, volume, name, true)
 }
