@@ -349,10 +349,12 @@ pub fn moves_shown<'a, R: Repository<Fault = StoreFault>>(
     ensures moves { IfOk result (λ m. IsReadOf R.clean R.stands archive.old archive.new
         (λ a. m.numbers.items ≡ moving_numbers to.now (found_in choice.now questions.now a))) }
     ensures refused { IfOk result (λ m. m.is_refused ≡ false
-        → IsReadOf R.clean R.stands archive.old archive.new (λ a. list_any (is_refused_one choice.now.numbers.items)
+        → IsReadOf R.clean R.stands archive.old archive.new
+        (λ a. list_any (is_refused_one choice.now.numbers.items)
         (found_in choice.now questions.now a) ≡ false)) }
     ensures found { IfOk result (λ m. m.is_refused ≡ false
-        → IsReadOf R.clean R.stands archive.old archive.new (λ a. HasSingles choice.now.numbers.items (found_in choice.now questions.now a))) }
+        → IsReadOf R.clean R.stands archive.old archive.new
+        (λ a. HasSingles choice.now.numbers.items (found_in choice.now questions.now a))) }
 {
     let mut moves = Moves {
         rt,
