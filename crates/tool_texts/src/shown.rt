@@ -10,20 +10,27 @@ use std::fmt::{self, Display};
 use std::marker::Model;
 
 /// Adds pieces to a [`Shown`] text, one after the other: words of the program, and values by the calls of `Shown` that are
-/// named.
+/// named. Answers what the first call that fails answers, and else what the last one does.
 #[macro_export]
 macro_rules! put {
-    ($text:expr;) => {
-        Ok::<(), std::alloc::AllocError>(())
+    ($text:expr; $words:literal) => {
+        $text.words($words)
     };
-    ($text:expr; $words:literal $($rest:tt)*) => {{
-        $text.words($words)?;
-        $crate::put!($text; $($rest)*)
-    }};
-    ($text:expr; $call:ident($value:expr) $($rest:tt)*) => {{
-        $text.$call($value)?;
-        $crate::put!($text; $($rest)*)
-    }};
+    ($text:expr; $call:ident($($value:expr)?)) => {
+        $text.$call($($value)?)
+    };
+    ($text:expr; $words:literal $($rest:tt)+) => {
+        match $text.words($words) {
+            Ok(()) => $crate::put!($text; $($rest)+),
+            Err(error) => Err(error),
+        }
+    };
+    ($text:expr; $call:ident($($value:expr)?) $($rest:tt)+) => {
+        match $text.$call($($value)?) {
+            Ok(()) => $crate::put!($text; $($rest)+),
+            Err(error) => Err(error),
+        }
+    };
 }
 
 /// A text for a terminal or a log: lines of visible characters and blanks.
