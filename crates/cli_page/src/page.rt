@@ -18,24 +18,14 @@ macro_rules! put {
     ($page:expr;) => {
         Ok::<(), AllocError>(())
     };
-    ($page:expr; $markup:literal) => {
-        $page.markup($markup)
-    };
-    ($page:expr; $call:ident($value:expr)) => {
-        $page.$call($value)
-    };
-    ($page:expr; $markup:literal $($rest:tt)+) => {
-        match $page.markup($markup) {
-            Ok(()) => put!($page; $($rest)+),
-            Err(error) => Err(error),
-        }
-    };
-    ($page:expr; $call:ident($value:expr) $($rest:tt)+) => {
-        match $page.$call($value) {
-            Ok(()) => put!($page; $($rest)+),
-            Err(error) => Err(error),
-        }
-    };
+    ($page:expr; $markup:literal $($rest:tt)*) => {{
+        $page.markup($markup)?;
+        put!($page; $($rest)*)
+    }};
+    ($page:expr; $call:ident($value:expr) $($rest:tt)*) => {{
+        $page.$call($value)?;
+        put!($page; $($rest)*)
+    }};
 }
 
 pub(crate) use put;
