@@ -1,1 +1,2 @@
+mod DayLemmas
 mod SizeRows

@@ -1,7 +1,8 @@
 //! What a command line says of how mail is captured: by which rules, as of which moment, for how long, and what is told of it.
 
 use super::{Command, Filing, Moment, Telling, names};
-use crate::reading::{NoCommand, day_of, has_flag, required, value_of};
+use crate::days::day_of;
+use crate::reading::{NoCommand, has_flag, required, value_of};
 use clap::ArgMatches;
 use jiff::civil::{Date, date};
 use session_words::read_number;

@@ -1,8 +1,11 @@
 //! What a command line asks of a history, and what it tells for one.
 
-ghost use Rattle.std.specs.Prelude.{◌≡◌, is_some, IfOk, IfSome};
+ghost use Rattle.std.specs.Prelude.{◌≡◌, codes, is_some, IfOk, IfSome};
+ghost use Rattle.clap.specs.Matches.{found_of};
 ghost use Rattle.choice_words.specs.Typed.{is_named_or_none};
+ghost use Rattle.command_lines.specs.Asked.{value_in};
 ghost use Rattle.command_lines.specs.Histories.{IsAskedFor};
+ghost use Rattle.command_lines.specs.Stores.{is_mark, IsHead};
 
 use super::numbers::{Numbers, numbers_asked, numbers_in_volume};
 use super::questions::day_asked;
@@ -353,7 +356,9 @@ pub(super) fn history_asked<'a>(
 }
 
 /// Whether a text is a mark: 64 hexadecimal digits, as they are printed.
-fn is_mark(text: &str) -> bool {
+fn is_mark(text: &str) -> bool
+    ensures { result ≡ is_mark text.now }
+{
     for octet in text.as_bytes() {
         if !matches!(*octet, b'0'..=b'9' | b'a'..=b'f') {
             return false;
@@ -366,7 +371,9 @@ fn is_mark(text: &str) -> bool {
 pub(super) fn head_asked<'a>(
     alloc: Global,
     asked: &ArgMatches<'a>,
-) -> Result<Option<&'a str>, NoCommand> {
+) -> Result<Option<&'a str>, NoCommand>
+    ensures { IfOk result (IsHead (value_in (found_of asked.now) (codes "head"))) }
+{
     match value_of(asked, names::HEAD) {
         Some(mark) if !is_mark(mark) => {
             let reason =

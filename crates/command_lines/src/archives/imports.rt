@@ -2,7 +2,8 @@
 
 use super::captures::filing_asked;
 use super::{Filing, names};
-use crate::reading::{NoCommand, day_of, has_flag, required, values_of};
+use crate::days::day_of;
+use crate::reading::{NoCommand, has_flag, required, values_of};
 use clap::ArgMatches;
 use jiff::civil::Date;
 use std::alloc::Global;
