@@ -4,7 +4,9 @@ ghost use Rattle.std.specs.Prelude.{◌≡◌, codes, false, IfOk, OnOk, Some};
 ghost use Rattle.clap.specs.Matches.{found_of};
 ghost use Rattle.choice_words.specs.Readings.{reads_as_numbers as reads_as_numbers_of};
 ghost use Rattle.command_lines.specs.Asked.{value_in};
+ghost use Rattle.command_lines.specs.Captures.{IsDeliver};
 ghost use Rattle.command_lines.specs.Changes.{IsDisposal, IsDispose};
+ghost use Rattle.command_lines.specs.Commands.{IsCommand, IsLine, IsLineOf, IsRead};
 ghost use Rattle.command_lines.specs.Readings.{formats_in, one_format, sorting_typed, IsExport, IsList, IsListing, IsReport, IsShow, IsTarget, IsWhyOf};
 ghost use Rattle.command_lines.specs.Stores.{IsCheck, IsCopy, IsCreate, IsPlan, IsTitles};
 
@@ -524,7 +526,9 @@ fn show_asked<'a>(alloc: Global, asked: &ArgMatches<'a>) -> Result<Command<'a>, 
 }
 
 /// How the message on standard input is captured.
-fn deliver_asked<'a>(alloc: Global, asked: &ArgMatches<'a>) -> Result<Command<'a>, NoCommand> {
+fn deliver_asked<'a>(alloc: Global, asked: &ArgMatches<'a>) -> Result<Command<'a>, NoCommand>
+    ensures { IfOk result (IsDeliver (found_of asked.now)) }
+{
     Ok(Command::Deliver {
         filing: filing_asked(alloc, asked)?,
         is_as_is: has_flag(asked, names::AS_IS),
@@ -536,7 +540,9 @@ fn command_asked<'a>(
     alloc: Global,
     name: &str,
     asked: &ArgMatches<'a>,
-) -> Result<Command<'a>, NoCommand> {
+) -> Result<Command<'a>, NoCommand>
+    ensures { IfOk result (IsCommand name.now (found_of asked.now)) }
+{
     match name {
         "create" => create_asked(alloc, asked),
         "plan" => plan_asked(alloc, asked),
@@ -571,7 +577,9 @@ fn line_asked<'a>(
     alloc: Global,
     name: &str,
     asked: &ArgMatches<'a>,
-) -> Result<CommandLine<'a>, NoCommand> {
+) -> Result<CommandLine<'a>, NoCommand>
+    ensures { IfOk result (IsLine name.now (found_of asked.now)) }
+{
     let store = required(asked, names::STORE)?;
     let attribution = attribution_asked(alloc, asked)?;
     let command = command_asked(alloc, name, asked)?;
@@ -584,7 +592,9 @@ fn line_asked<'a>(
 }
 
 /// What the words that were found ask for.
-fn read_matches<'a>(alloc: Global, matches: &ArgMatches<'a>) -> Result<CommandLine<'a>, NoCommand> {
+fn read_matches<'a>(alloc: Global, matches: &ArgMatches<'a>) -> Result<CommandLine<'a>, NoCommand>
+    ensures { IfOk result (IsLineOf matches.now) }
+{
     match matches.subcommand() {
         Some((name, asked)) => line_asked(alloc, name, asked),
         None => Err(NoCommand::Unread),
@@ -622,7 +632,9 @@ fn with_forgotten(alloc: Global, words: &[String], refusal: NoCommand) -> NoComm
 pub fn read_command_line<'a>(
     rt: &HostRuntime,
     words: &'a [String],
-) -> Result<CommandLine<'a>, NoCommand> {
+) -> Result<CommandLine<'a>, NoCommand>
+    ensures { IfOk result IsRead }
+{
     let alloc = rt.alloc();
     match read_words(rt, &words::program(alloc)?, words) {
         Ok(matches) => read_matches(alloc, &matches),

@@ -1,11 +1,13 @@
 //! What a command line asks of a history, and what it tells for one.
 
-ghost use Rattle.std.specs.Prelude.{◌≡◌, codes, is_some, IfOk, IfSome};
+ghost use Rattle.std.specs.Prelude.{◌≡◌, [], codes, is_some, length, nat_le, true, unwrap_or, IfOk, IfSome, IsTrue, OnOk};
 ghost use Rattle.clap.specs.Matches.{found_of};
 ghost use Rattle.choice_words.specs.Typed.{is_named_or_none};
-ghost use Rattle.command_lines.specs.Asked.{value_in};
+ghost use Rattle.command_lines.specs.Asked.{text_of, value_in};
 ghost use Rattle.command_lines.specs.Histories.{IsAskedFor};
 ghost use Rattle.command_lines.specs.Stores.{is_mark, IsHead};
+ghost use Rattle.command_lines.specs.Tasks.{changes_in, is_chosen, kind_of, needs_reason, task_of, AreEvents, IsChange, IsJudged, IsKind, IsTask, IsTold, StandsAlone};
+ghost use Rattle.session_words.specs.Words.{is_name as is_name_of};
 
 use super::numbers::{Numbers, numbers_asked, numbers_in_volume};
 use super::questions::day_asked;
@@ -96,7 +98,9 @@ impl<'a> TypedHistory<'a> {
     }
 
     /// Whether something that is printed is chosen, but for who did it.
-    fn is_chosen(&self) -> bool {
+    fn is_chosen(&self) -> bool
+        ensures { result ≡ is_chosen self.now }
+    {
         let asked = &self.alone;
         !asked.numbers.is_empty()
             || !self.of_volumes.is_empty()
@@ -135,7 +139,9 @@ fn is_blank(text: &str) -> bool {
 }
 
 /// Whether a text can be a reason: it is not too long, is not of blanks alone, and is printed as it is.
-fn is_reason(alloc: Global, text: &str) -> Result<bool, AllocError> {
+fn is_reason(alloc: Global, text: &str) -> Result<bool, AllocError>
+    ensures { IfOk result (λ is. IsTrue is → nat_le (length text.now) 500 ≡ true) }
+{
     if text.len() > LONGEST_REASON || is_blank(text) {
         return Ok(false);
     }
@@ -145,7 +151,9 @@ fn is_reason(alloc: Global, text: &str) -> Result<bool, AllocError> {
 }
 
 /// Whether a word can be a name for the history. One that begins with two hyphens is an option before which a name is missing.
-fn is_name_told(word: &str) -> bool {
+fn is_name_told(word: &str) -> bool
+    ensures { IsTrue result → is_name_of word.now ≡ true }
+{
     is_name(word.as_bytes()) && !word.starts_with("--")
 }
 
@@ -171,7 +179,10 @@ pub(super) fn judge_author(
 }
 
 /// A name for the history, where one is given.
-fn name_told<'a>(alloc: Global, asked: &ArgMatches<'a>) -> Result<Option<&'a str>, NoCommand> {
+fn name_told<'a>(alloc: Global, asked: &ArgMatches<'a>) -> Result<Option<&'a str>, NoCommand>
+    ensures typed { IfOk result (λ name. text_of name ≡ value_in (found_of asked.now) (codes "by")) }
+    ensures name { IfOk result (λ name. IfSome name (λ n. is_name_of n.now ≡ true)) }
+{
     match value_of(asked, names::BY) {
         Some(name) if !is_name_told(name) => {
             let reason = "who does it is told by 1 to 64 visible ASCII characters, as ann";
@@ -182,7 +193,10 @@ fn name_told<'a>(alloc: Global, asked: &ArgMatches<'a>) -> Result<Option<&'a str
 }
 
 /// A reason for the history.
-fn reason_told<'a>(alloc: Global, asked: &ArgMatches<'a>) -> Result<&'a str, NoCommand> {
+fn reason_told<'a>(alloc: Global, asked: &ArgMatches<'a>) -> Result<&'a str, NoCommand>
+    ensures typed { IfOk result (λ text. text.now ≡ unwrap_or (value_in (found_of asked.now) (codes "reason")) []) }
+    ensures short { IfOk result (λ text. nat_le (length text.now) 500 ≡ true) }
+{
     let text = value_of(asked, names::REASON).unwrap_or("");
     if is_reason(alloc, text)? {
         return Ok(text);
@@ -196,7 +210,9 @@ fn reason_told<'a>(alloc: Global, asked: &ArgMatches<'a>) -> Result<&'a str, NoC
 pub(super) fn attribution_asked<'a>(
     alloc: Global,
     asked: &ArgMatches<'a>,
-) -> Result<Attribution<'a>, NoCommand> {
+) -> Result<Attribution<'a>, NoCommand>
+    ensures { IfOk result (IsTold (found_of asked.now)) }
+{
     Ok(Attribution {
         by: name_told(alloc, asked)?,
         reason: reason_told(alloc, asked)?,
@@ -219,7 +235,9 @@ const KINDS: &[(&str, DeedKind)] = &[
 ];
 
 /// The kind of a word.
-fn kind_of(word: &str) -> Option<DeedKind> {
+fn kind_of(word: &str) -> Option<DeedKind>
+    ensures { result ≡ kind_of word.now }
+{
     for (name, kind) in KINDS {
         if *name == word {
             return Some(*kind);
@@ -229,7 +247,9 @@ fn kind_of(word: &str) -> Option<DeedKind> {
 }
 
 /// A kind of deed, where one is asked for.
-fn kind_asked(alloc: Global, asked: &ArgMatches<'_>) -> Result<Option<DeedKind>, NoCommand> {
+fn kind_asked(alloc: Global, asked: &ArgMatches<'_>) -> Result<Option<DeedKind>, NoCommand>
+    ensures { IfOk result (IsKind (value_in (found_of asked.now) (codes "deeds"))) }
+{
     let Some(word) = value_of(asked, names::DEEDS) else {
         return Ok(None);
     };
@@ -244,7 +264,9 @@ fn kind_asked(alloc: Global, asked: &ArgMatches<'_>) -> Result<Option<DeedKind>,
 }
 
 /// Which events are asked for.
-fn events_asked<'a>(alloc: Global, asked: &ArgMatches<'a>) -> Result<TypedHistory<'a>, NoCommand> {
+fn events_asked<'a>(alloc: Global, asked: &ArgMatches<'a>) -> Result<TypedHistory<'a>, NoCommand>
+    ensures { IfOk result (AreEvents (found_of asked.now)) }
+{
     let Numbers { alone, of_volumes } = numbers_asked(alloc, asked)?;
     let alone = HistoryAsked {
         numbers: alone,
@@ -274,7 +296,9 @@ const CHANGES: &[(&str, Change)] = &[
 ];
 
 /// The change of a history that is asked for, if one is. Two at once are refused.
-fn change_asked(alloc: Global, asked: &ArgMatches<'_>) -> Result<Option<Change>, NoCommand> {
+fn change_asked(alloc: Global, asked: &ArgMatches<'_>) -> Result<Option<Change>, NoCommand>
+    ensures { IfOk result (IsChange (changes_in (found_of asked.now))) }
+{
     let mut change = None;
     for (name, named) in CHANGES {
         if has_flag(asked, name) {
@@ -290,7 +314,9 @@ fn change_asked(alloc: Global, asked: &ArgMatches<'_>) -> Result<Option<Change>,
 }
 
 /// Whether a change of a history always needs a reason.
-fn needs_reason(change: Change) -> bool {
+fn needs_reason(change: Change) -> bool
+    ensures { result ≡ needs_reason change }
+{
     match change {
         Change::WaiveReasons | Change::AcceptFound => true,
         Change::Begin | Change::RequireReasons => false,
@@ -298,7 +324,9 @@ fn needs_reason(change: Change) -> bool {
 }
 
 /// The task that a change of a history is.
-fn task_of<'a>(change: Change) -> HistoryTask<'a> {
+fn task_of<'a>(change: Change) -> HistoryTask<'a>
+    ensures { result ≡ task_of change }
+{
     match change {
         Change::Begin => HistoryTask::Begin,
         Change::RequireReasons => HistoryTask::Reasons(Reasons::Required),
@@ -313,7 +341,9 @@ fn judge_change(
     asked: &ArgMatches<'_>,
     events: &TypedHistory<'_>,
     change: Change,
-) -> Result<(), NoCommand> {
+) -> Result<(), NoCommand>
+    ensures { OnOk result (StandsAlone (found_of asked.now) events.now change) }
+{
     if events.is_chosen() {
         let reason =
             "--begin, --require-reason, --waive-reason and --accept-found stand with --by and --reason alone";
@@ -331,7 +361,9 @@ fn judged_change(
     alloc: Global,
     asked: &ArgMatches<'_>,
     events: &TypedHistory<'_>,
-) -> Result<Option<Change>, NoCommand> {
+) -> Result<Option<Change>, NoCommand>
+    ensures { IfOk result (IsJudged (found_of asked.now) events.now) }
+{
     let change = change_asked(alloc, asked)?;
     if let Some(change) = change {
         judge_change(alloc, asked, events, change)?;
@@ -347,7 +379,9 @@ fn judged_change(
 pub(super) fn history_asked<'a>(
     alloc: Global,
     asked: &ArgMatches<'a>,
-) -> Result<HistoryTask<'a>, NoCommand> {
+) -> Result<HistoryTask<'a>, NoCommand>
+    ensures { IfOk result (IsTask (found_of asked.now)) }
+{
     let events = events_asked(alloc, asked)?;
     match judged_change(alloc, asked, &events)? {
         Some(change) => Ok(task_of(change)),
