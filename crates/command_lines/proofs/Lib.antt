@@ -1,2 +1,3 @@
 mod DayLemmas
+mod MomentLemmas
 mod SizeRows

@@ -1,5 +1,6 @@
 -- What is asked of lists, exports and pages, and of single records.
-use Rattle.std.specs.Prelude.{◌≡◌, ℕ, ◌&&◌, ◌++◌, Bool, true, false, List, [], ◌∷◌, codes, Option, Some, None, if◌then◌else◌}
+use Rattle.std.specs.Prelude.{◌≡◌, ℕ, ◌&&◌, Bool, true, false, List, [], ◌∷◌, codes, Option, Some, None, if◌then◌else◌}
+use Rattle.std.specs.List.{flat_map}
 use Rattle.std.specs.Str.{bytes_eq}
 use Rattle.jiff.specs.Types.{Date}
 use Rattle.clap.specs.declared.parser.matches.Found.{Found}
@@ -23,14 +24,21 @@ use Rattle.command_lines.specs.declared.archives.Why.{Why}
 
 -- ---- lists
 
-abbrev pub format_by : Found → (name : List ℕ) → Format → List Format
-format_by found name format = if is_given found name then format ∷ [] else []
+-- the flags that ask for formats
+abbrev pub formats : List (List ℕ × Format)
+formats =
+    (codes "csv", format.Csv) ∷
+    (codes "json", format.Json) ∷
+    (codes "numbers", format.Numbers) ∷
+    (codes "count", format.Count) ∷
+    []
+
+abbrev pub format_by : Found → List ℕ × Format → List Format
+format_by found flag = if is_given found flag.0 then flag.1 ∷ [] else []
 
 -- the formats whose flags are given
 abbrev pub formats_in : Found → List Format
-formats_in found =
-    format_by found (codes "csv") format.Csv ++ format_by found (codes "json") format.Json
-    ++ format_by found (codes "numbers") format.Numbers ++ format_by found (codes "count") format.Count
+formats_in found = flat_map (format_by found) formats
 
 -- one format, which is that of lines where no other one is asked for
 abbrev pub one_format : List Format → Option Format

@@ -76,7 +76,7 @@ is_mark_octet o = nat_le 48 o && nat_le o 57 || nat_le 97 o && nat_le o 102
 
 -- a mark: 64 hexadecimal digits, of which a to f are small letters
 abbrev pub is_mark : List ℕ → Bool
-is_mark text = list_all is_mark_octet text && (length text == 64)
+is_mark text = (length text == 64) && list_all is_mark_octet text
 
 -- the mark that is looked for, if one is
 pub record IsHead (word : Option (List ℕ)) (head : Option (Bor (List ℕ))) : Type 0 where

@@ -1,6 +1,6 @@
 -- What is asked of a history, and what is told for one.
-use Rattle.std.specs.Prelude.{◌≡◌, ℕ, ◌&&◌, ◌||◌, ◌++◌, ◌==◌, not, nat_le, Bool, true, false, List, [], ◌∷◌, length, codes, Option, Some, None, is_some, option_map, unwrap_or, IfSome, if◌then◌else◌}
-use Rattle.std.specs.List.{find}
+use Rattle.std.specs.Prelude.{◌≡◌, ℕ, ◌&&◌, ◌||◌, ◌==◌, not, nat_le, Bool, true, false, List, [], ◌∷◌, length, codes, Option, Some, None, is_some, option_map, unwrap_or, IfSome, if◌then◌else◌}
+use Rattle.std.specs.List.{find, flat_map}
 use Rattle.std.specs.Str.{bytes_eq, encode_utf8_all, trim}
 use Rattle.clap.specs.declared.parser.matches.Found.{Found}
 use Rattle.session_words.specs.Words.{is_name}
@@ -69,14 +69,21 @@ is_chosen asked = not (length asked.alone.numbers.items == 0) || not (length ask
 
 -- ---- the changes of a history
 
-abbrev pub change_by : Found → (name : List ℕ) → Change → List Change
-change_by found name change = if is_given found name then change ∷ [] else []
+-- the flags that ask for changes
+abbrev pub changes : List (List ℕ × Change)
+changes =
+    (codes "begin", change.Begin) ∷
+    (codes "require-reason", change.RequireReasons) ∷
+    (codes "waive-reason", change.WaiveReasons) ∷
+    (codes "accept-found", change.AcceptFound) ∷
+    []
+
+abbrev pub change_by : Found → List ℕ × Change → List Change
+change_by found flag = if is_given found flag.0 then flag.1 ∷ [] else []
 
 -- the changes whose flags are given
 abbrev pub changes_in : Found → List Change
-changes_in found =
-    change_by found (codes "begin") change.Begin ++ change_by found (codes "require-reason") change.RequireReasons
-    ++ change_by found (codes "waive-reason") change.WaiveReasons ++ change_by found (codes "accept-found") change.AcceptFound
+changes_in found = flat_map (change_by found) changes
 
 -- at most one change is asked for
 abbrev pub IsChange : List Change → Option Change → Type 0

@@ -1,6 +1,7 @@
 //! What a command line says of how mail is captured: by which rules, as of which moment, for how long, and what is told of it.
 
-ghost use Rattle.std.specs.Prelude.{◌≡◌, codes, IfOk, IfSome, Some};
+ghost use Rattle.std.specs.Prelude.{◌≡◌, ◌*ℤ◌, codes, pos, IfOk, IfSome, Some};
+ghost use Rattle.jiff.specs.Words.{epoch_day};
 ghost use Rattle.clap.specs.Matches.{found_of};
 ghost use Rattle.command_lines.specs.Asked.{value_in};
 ghost use Rattle.command_lines.specs.Captures.{limit_typed, IsFiling, IsFirstSecond, IsIntake, IsMoment, IsSecond};
@@ -13,12 +14,18 @@ use jiff::civil::{Date, date};
 use session_words::read_number;
 use std::alloc::Global;
 
+/// How many hours there are from the beginning of 1970 to that of a day, in UTC.
+fn hours_before(day: Date) -> i64
+    ensures { result ≡ epoch_day day *ℤ pos 24 }
+{
+    date(1970, 1, 1).duration_until(day).as_hours()
+}
+
 /// The first second of a day in UTC, in seconds since 1970; none for a day before.
 fn first_second_of(day: Date) -> Option<u64>
     ensures { IfSome result (IsFirstSecond day) }
 {
-    let hours = date(1970, 1, 1).duration_until(day).as_hours();
-    u64::try_from(hours).ok()?.checked_mul(3_600)
+    u64::try_from(hours_before(day)).ok()?.checked_mul(3_600)
 }
 
 /// The moment that a word is: a number of seconds since 1970, of 64 bits in decimal digits without a leading zero, or a day of

@@ -1,11 +1,12 @@
 //! What a command line asks of a history, and what it tells for one.
 
 ghost use Rattle.std.specs.Prelude.{◌≡◌, [], codes, is_some, length, nat_le, true, unwrap_or, IfOk, IfSome, IsTrue, OnOk};
+ghost use Rattle.std.specs.List.{list_all};
 ghost use Rattle.clap.specs.Matches.{found_of};
 ghost use Rattle.choice_words.specs.Typed.{is_named_or_none};
 ghost use Rattle.command_lines.specs.Asked.{text_of, value_in};
 ghost use Rattle.command_lines.specs.Histories.{IsAskedFor};
-ghost use Rattle.command_lines.specs.Stores.{is_mark, IsHead};
+ghost use Rattle.command_lines.specs.Stores.{is_mark, is_mark_octet, IsHead};
 ghost use Rattle.command_lines.specs.Tasks.{changes_in, is_chosen, kind_of, needs_reason, task_of, AreEvents, IsChange, IsJudged, IsKind, IsTask, IsTold, StandsAlone};
 ghost use Rattle.session_words.specs.Words.{is_name as is_name_of};
 
@@ -389,16 +390,25 @@ pub(super) fn history_asked<'a>(
     }
 }
 
+/// Whether an octet is a hexadecimal digit, as it is printed.
+fn is_mark_octet(octet: u8) -> bool
+    ensures { result ≡ is_mark_octet octet }
+{
+    matches!(octet, b'0'..=b'9' | b'a'..=b'f')
+}
+
+/// Whether all octets are such digits.
+fn are_mark_octets(word: &[u8]) -> bool
+    ensures { result ≡ list_all is_mark_octet word.now }
+{
+    word.iter().all(|octet| is_mark_octet(*octet))
+}
+
 /// Whether a text is a mark: 64 hexadecimal digits, as they are printed.
 fn is_mark(text: &str) -> bool
     ensures { result ≡ is_mark text.now }
 {
-    for octet in text.as_bytes() {
-        if !matches!(*octet, b'0'..=b'9' | b'a'..=b'f') {
-            return false;
-        }
-    }
-    text.len() == 64
+    text.len() == 64 && are_mark_octets(text.as_bytes())
 }
 
 /// A mark that is looked for.
