@@ -19,7 +19,8 @@ epoch_day-zero d y m e =
     rw (y, month, day) refl
 
 -- a word that is a day and no number
-pub second_of_day : (word : List ℕ) (day : Date) (r : Option ℕ) → number_up_to greatest_number word ≡ None
+pub second_of_day : (word octets : List ℕ) (day : Date) (r : Option ℕ) → octets ≡ word → number_up_to greatest_number octets ≡ None
     → day_typed word ≡ Some (named day) → IfSome r (IsFirstSecond day) → IfSome r (IsSecond word)
-second_of_day word day r none e h =
-    IfSome_then r h (λ s f. subst (λ o. IsSecondBy o word s) (sym none) (day, e, f))
+second_of_day word octets day r same none e h =
+    IfSome_then r h (λ s f. subst (λ w. IsSecondBy (number_up_to greatest_number w) word s) same
+    (subst (λ o. IsSecondBy o word s) (sym none) (day, e, f)))

@@ -1,8 +1,8 @@
 -- What the subcommands of `mailfile-store` ask for.
-use Rattle.std.specs.Prelude.{◌≡◌, ℕ, List, codes, Some}
+use Rattle.std.specs.Prelude.{◌≡◌, ℕ, List, codes, Some, option_map}
 use Rattle.clap.specs.declared.parser.matches.Found.{Found}
 use Rattle.command_lines.specs.Asked.{is_given, value_in, values_in}
-use Rattle.clap.specs.Matches.{found_of}
+use Rattle.clap.specs.Matches.{subcommand_name_of}
 use Rattle.clap.specs.Simple.{subcommand_rows_of}
 use Rattle.clap.specs.Walk.{rows_of}
 use Rattle.clap.specs.declared.parser.matches.ArgMatches.{ArgMatches}
@@ -58,7 +58,8 @@ pub record IsLine (name : List ℕ) (found : Found) (line : CommandLine) : Type 
 -- THE COMMAND LINE OF WHAT `clap` FOUND: of the subcommand that it met, with the words that it found there
 abbrev pub IsLineOf : ArgMatches → CommandLine → Type 0
 IsLineOf matches line =
-    (name : List ℕ) × (found : Found) × (subcommand_rows_of matches ≡ Some (name, rows_of found)) × IsLine name found line
+    (name : List ℕ) × (found : Found) × (subcommand_name_of matches ≡ Some name)
+    × (option_map (λ p. p.1) (subcommand_rows_of matches) ≡ Some (rows_of found)) × IsLine name found line
 
 -- WHAT IS READ: the command line of some words that `clap` found
 abbrev pub IsRead : CommandLine → Type 0

@@ -7,7 +7,7 @@ use Rattle.session_words.specs.Words.{is_name}
 use Rattle.tool_texts.specs.Quoting.{visible_text}
 use Rattle.command_lines.specs.Asked.{is_given, text_of, value_in, values_in}
 use Rattle.command_lines.specs.Days.{IsDay}
-use Rattle.command_lines.specs.Numbers.{AreTyped}
+use Rattle.command_lines.specs.Numbers.{AreTyped, listed}
 use Rattle.command_lines.specs.declared.archives.Command.{Command}
 use Rattle.command_lines.specs.declared.archives.Command.TheVariants as command
 use Rattle.command_lines.specs.declared.archives.histories.Attribution.{Attribution}
@@ -48,7 +48,7 @@ kinds =
     []
 
 abbrev pub kind_of : List ℕ → Option DeedKind
-kind_of word = option_map (λ k. k.1) (find (λ k. bytes_eq k.0 word) kinds)
+kind_of word = option_map (λ k. k.1) (find (λ k. bytes_eq word k.0) kinds)
 
 -- the kind of a word, if it is given, so that no other word is taken for one
 abbrev pub IsKind : (word : Option (List ℕ)) → Option DeedKind → Type 0
@@ -87,9 +87,7 @@ changes_in found = flat_map (change_by found) changes
 
 -- at most one change is asked for
 abbrev pub IsChange : List Change → Option Change → Type 0
-IsChange [] one = one ≡ None
-IsChange (c ∷ []) one = one ≡ Some c
-IsChange (c ∷ d ∷ cs) one = ⊥
+IsChange changes one = changes ≡ listed one
 
 abbrev pub needs_reason : Change → Bool
 needs_reason change.WaiveReasons = true

@@ -48,8 +48,8 @@ pub struct TypedDisposal {
 impl TypedDisposal {
     /// Whether no number is typed, with a volume or without.
     fn is_of_all(&self) -> bool
-    ensures { result ≡ is_of_all self.now }
-{
+        ensures { result ≡ is_of_all self.now }
+    {
         self.alone.numbers.is_empty() && self.of_volumes.is_empty()
     }
 }

@@ -220,31 +220,24 @@ pub(super) fn attribution_asked<'a>(
     })
 }
 
-/// The words for kinds of deeds.
-const KINDS: &[(&str, DeedKind)] = &[
-    ("captured", DeedKind::Captured),
-    ("held", DeedKind::Held),
-    ("released", DeedKind::Released),
-    ("refiled", DeedKind::Refiled),
-    ("destroyed", DeedKind::Destroyed),
-    ("added", DeedKind::Added),
-    ("replaced", DeedKind::Replaced),
-    ("titled", DeedKind::Titled),
-    ("made", DeedKind::Made),
-    ("found", DeedKind::Found),
-    ("accepted", DeedKind::Accepted),
-];
-
 /// The kind of a word.
 fn kind_of(word: &str) -> Option<DeedKind>
     ensures { result ≡ kind_of word.now }
 {
-    for (name, kind) in KINDS {
-        if *name == word {
-            return Some(*kind);
-        }
+    match word {
+        "captured" => Some(DeedKind::Captured),
+        "held" => Some(DeedKind::Held),
+        "released" => Some(DeedKind::Released),
+        "refiled" => Some(DeedKind::Refiled),
+        "destroyed" => Some(DeedKind::Destroyed),
+        "added" => Some(DeedKind::Added),
+        "replaced" => Some(DeedKind::Replaced),
+        "titled" => Some(DeedKind::Titled),
+        "made" => Some(DeedKind::Made),
+        "found" => Some(DeedKind::Found),
+        "accepted" => Some(DeedKind::Accepted),
+        _ => None,
     }
-    None
 }
 
 /// A kind of deed, where one is asked for.
@@ -365,14 +358,18 @@ fn judged_change(
 ) -> Result<Option<Change>, NoCommand>
     ensures { IfOk result (IsJudged (found_of asked.now) events.now) }
 {
-    let change = change_asked(alloc, asked)?;
-    if let Some(change) = change {
-        judge_change(alloc, asked, events, change)?;
-    } else if value_of(asked, names::REASON).is_some() {
-        let reason = "--reason needs --begin, --require-reason, --waive-reason or --accept-found";
-        return Err(NoCommand::refused(alloc, reason));
+    match change_asked(alloc, asked)? {
+        Some(change) => {
+            judge_change(alloc, asked, events, change)?;
+            Ok(Some(change))
+        }
+        None if value_of(asked, names::REASON).is_some() => {
+            let reason =
+                "--reason needs --begin, --require-reason, --waive-reason or --accept-found";
+            Err(NoCommand::refused(alloc, reason))
+        }
+        None => Ok(None),
     }
-    Ok(change)
 }
 
 /// What is done with a history. A reason is refused where it is not changed, and a choice of events where it is; a reason that is

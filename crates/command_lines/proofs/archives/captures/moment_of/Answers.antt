@@ -4,5 +4,5 @@ use Rattle.command_lines.proofs.archives.captures.moment_of.Goals as goal
 
 pub returns-in_ok-day_of-in-None : goal.returns-in_ok-day_of-in-None
 returns-in_ok-day_of-in-None c =
-    second_of_day c.args.word.now c.in_ok-day_of-in-None.field-0 _ (sym c.in-None.ensures.number)
+    second_of_day c.args.word.now _ c.in_ok-day_of-in-None.field-0 _ c.as_bytes.ensures.value (sym c.in-None.ensures.number)
     (sym c.in_ok-day_of-in-None.ensures) c.first_second_of.ensures
