@@ -1,5 +1,5 @@
 -- What `clap` found of the words of a subcommand, by the names of these words.
-use Rattle.std.specs.Prelude.{◌≡◌, ℕ, Bool, false, List, [], ◌∷◌, codes, Option, Some, None, option_map, unwrap_or}
+use Rattle.std.specs.Prelude.{ℕ, Bool, false, List, [], codes, Option, Some, None, option_map, unwrap_or}
 use Rattle.std.specs.Borrow.{Bor}
 use Rattle.std.specs.Str.{bytes_eq, trim}
 use Rattle.clap.specs.Matches.{first_value, matched_of, one_text, raw_values}

@@ -1,6 +1,5 @@
 -- What is asked of holds, of classes and of the destruction of records.
-use Rattle.std.specs.Prelude.{◌≡◌, ℕ, ◌&&◌, ◌==◌, not, Bool, true, false, List, length, codes, Option, Some, None, IfSome}
-use Rattle.std.specs.Borrow.{Bor}
+use Rattle.std.specs.Prelude.{◌≡◌, ℕ, ◌&&◌, ◌==◌, not, Bool, true, false, List, length, codes, Some, IfSome}
 use Rattle.clap.specs.declared.parser.matches.Found.{Found}
 use Rattle.choice_words.specs.Readings.{reads_as_numbers}
 use Rattle.choice_words.specs.declared.typed.TypedChoice.{TypedChoice}

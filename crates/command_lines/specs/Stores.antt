@@ -1,5 +1,5 @@
 -- What is asked of a whole store: how it is made, copied and checked, its plan and its titles.
-use Rattle.std.specs.Prelude.{◌≡◌, ℕ, ◌&&◌, not, Bool, true, false, List, codes, Option, Some, None, length, ◌==◌, nat_le, ◌||◌, IfSome}
+use Rattle.std.specs.Prelude.{◌≡◌, ℕ, ◌&&◌, Bool, true, false, List, codes, Option, Some, None, length, ◌==◌, nat_le, ◌||◌, IfSome}
 use Rattle.std.specs.List.{list_all}
 use Rattle.std.specs.Borrow.{Bor}
 use Rattle.clap.specs.declared.parser.matches.Found.{Found}

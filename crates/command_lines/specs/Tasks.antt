@@ -1,10 +1,9 @@
 -- What is asked of a history, and what is told for one.
 use Rattle.std.specs.Prelude.{◌≡◌, ℕ, ◌&&◌, ◌||◌, ◌==◌, not, nat_le, Bool, true, false, List, [], ◌∷◌, length, codes, Option, Some, None, is_some, option_map, unwrap_or, IfSome, if◌then◌else◌}
 use Rattle.std.specs.List.{find, flat_map}
-use Rattle.std.specs.Str.{bytes_eq, encode_utf8_all, trim}
+use Rattle.std.specs.Str.{bytes_eq}
 use Rattle.clap.specs.declared.parser.matches.Found.{Found}
 use Rattle.session_words.specs.Words.{is_name}
-use Rattle.tool_texts.specs.Quoting.{visible_text}
 use Rattle.command_lines.specs.Asked.{is_given, text_of, value_in, values_in}
 use Rattle.command_lines.specs.Days.{IsDay}
 use Rattle.command_lines.specs.Numbers.{AreTyped, listed}

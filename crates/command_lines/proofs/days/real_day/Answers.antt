@@ -1,6 +1,6 @@
-use Rattle.std.proofs.Common.{◌≡◌, ◌∙◌, ap, arith, option_map}
+use Rattle.std.proofs.Common.{◌∙◌, ap, option_map}
 use Rattle.command_lines.specs.Days.{named}
-use Rattle.command_lines.proofs.DayLemmas.{before_1970, day_made}
+use Rattle.command_lines.proofs.DayLemmas.{day_made}
 use Rattle.command_lines.proofs.days.real_day.Goals as goal
 
 pub returns : goal.returns
