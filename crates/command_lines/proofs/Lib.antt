@@ -1,1 +1,3 @@
+mod DayLemmas
+mod MomentLemmas
 mod SizeRows

@@ -1,5 +1,5 @@
 -- The numbers of records that are typed, with a volume or without.
-use Rattle.std.specs.Prelude.{◌≡◌, ℕ, ◌++◌, ◌||◌, Bool, true, List, [], ◌∷◌, map, flat_map, Option, Some, None, is_some, option_map}
+use Rattle.std.specs.Prelude.{◌≡◌, ℕ, ◌++◌, ◌||◌, Bool, true, List, [], ◌∷◌, flat_map, Option, Some, None, is_some, option_map}
 use Rattle.std.specs.Prelude.{IfSome, Vec}
 use Rattle.std.specs.declared.alloc.Global.{Global}
 use Rattle.std.specs.List.{list_all}
@@ -10,6 +10,7 @@ use Rattle.choice_words.specs.Volumes.{volume_number, volume_numbers}
 use Rattle.choice_words.specs.declared.numbers.TypedNumbers.{TypedNumbers}
 use Rattle.choice_words.specs.declared.volumes.VolumeNumber.{VolumeNumber}
 use Rattle.choice_words.specs.declared.volumes.VolumeNumbers.{VolumeNumbers}
+use Rattle.command_lines.specs.declared.archives.TypedNumber.{TypedNumber}
 use Rattle.command_lines.specs.declared.archives.numbers.Numbers.{Numbers}
 
 -- ---- one number
@@ -21,6 +22,11 @@ volume_and_number None alone = option_map (λ n. (None, n)) alone
 -- THE NUMBER OF A RECORD THAT A WORD IS, with that of its volume, if it has one
 abbrev pub number_typed : List ℕ → Option (Option ℕ × ℕ)
 number_typed word = volume_and_number (volume_number word) (number_up_to 4294967295 word)
+
+-- a number is that of a word, as it is typed
+pub record IsNumberOf (word : Option (List ℕ)) (n : TypedNumber) : Type 0 where
+  pub typed : word ≡ Some n.word.now
+  pub number : number_typed n.word.now ≡ Some (n.volume, n.number)
 
 -- ---- of one volume
 

@@ -1,5 +1,15 @@
 //! The command line of `mailfile-store`: what it asks for, with each value read and judged.
 
+ghost use Rattle.std.specs.Prelude.{◌≡◌, codes, false, IfOk, OnOk, Some};
+ghost use Rattle.clap.specs.Matches.{found_of};
+ghost use Rattle.choice_words.specs.Readings.{reads_as_numbers as reads_as_numbers_of};
+ghost use Rattle.command_lines.specs.Asked.{value_in};
+ghost use Rattle.command_lines.specs.Captures.{IsDeliver};
+ghost use Rattle.command_lines.specs.Changes.{IsDisposal, IsDispose};
+ghost use Rattle.command_lines.specs.Commands.{IsCommand, IsLine, IsLineOf, IsRead};
+ghost use Rattle.command_lines.specs.Readings.{formats_in, one_format, sorting_typed, IsExport, IsList, IsListing, IsReport, IsShow, IsTarget, IsWhyOf};
+ghost use Rattle.command_lines.specs.Stores.{IsCheck, IsCopy, IsCreate, IsPlan, IsTitles};
+
 mod approvals;
 mod capture_words;
 mod captures;
@@ -284,7 +294,9 @@ const FORMATS: &[(&str, Format)] = &[
 ];
 
 /// How records are listed. Two formats at once are refused.
-fn format_asked(alloc: Global, asked: &ArgMatches<'_>) -> Result<Format, NoCommand> {
+fn format_asked(alloc: Global, asked: &ArgMatches<'_>) -> Result<Format, NoCommand>
+    ensures { IfOk result (λ format. one_format (formats_in (found_of asked.now)) ≡ Some format) }
+{
     let mut format = None;
     for (name, named) in FORMATS {
         if has_flag(asked, name) {
@@ -299,7 +311,9 @@ fn format_asked(alloc: Global, asked: &ArgMatches<'_>) -> Result<Format, NoComma
 }
 
 /// What a list has. Headers of messages are refused where no record has more than its number.
-fn listing_asked(alloc: Global, asked: &ArgMatches<'_>) -> Result<Listing, NoCommand> {
+fn listing_asked(alloc: Global, asked: &ArgMatches<'_>) -> Result<Listing, NoCommand>
+    ensures { IfOk result (IsListing (found_of asked.now)) }
+{
     let format = format_asked(alloc, asked)?;
     let headers = has_flag(asked, names::HEADERS);
     if headers && matches!(format, Format::Numbers | Format::Count) {
@@ -314,7 +328,9 @@ fn listing_asked(alloc: Global, asked: &ArgMatches<'_>) -> Result<Listing, NoCom
 }
 
 /// The records that are listed: those of a choice, or those whose messages stand twice, beside which nothing is chosen.
-fn list_asked<'a>(alloc: Global, asked: &ArgMatches<'a>) -> Result<Command<'a>, NoCommand> {
+fn list_asked<'a>(alloc: Global, asked: &ArgMatches<'a>) -> Result<Command<'a>, NoCommand>
+    ensures { IfOk result (IsList (found_of asked.now)) }
+{
     let choice = choice_asked(alloc, asked)?;
     let listing = listing_asked(alloc, asked)?;
     if !has_flag(asked, names::TWICE) {
@@ -328,7 +344,9 @@ fn list_asked<'a>(alloc: Global, asked: &ArgMatches<'a>) -> Result<Command<'a>, 
 }
 
 /// How the index of an export is sorted: by number, where nothing is said.
-fn sorting_asked(alloc: Global, asked: &ArgMatches<'_>) -> Result<Sorting, NoCommand> {
+fn sorting_asked(alloc: Global, asked: &ArgMatches<'_>) -> Result<Sorting, NoCommand>
+    ensures { IfOk result (λ sorting. sorting_typed (value_in (found_of asked.now) (codes "sort")) ≡ Some sorting) }
+{
     match value_of(asked, names::SORT) {
         None | Some("number") => Ok(Sorting::Number),
         Some("date") => Ok(Sorting::Date),
@@ -344,7 +362,9 @@ fn sorting_asked(alloc: Global, asked: &ArgMatches<'_>) -> Result<Sorting, NoCom
 
 /// Refuses a word that reads as numbers of records where something else belongs, which was more likely forgotten, in words that
 /// say what.
-fn judge_place(alloc: Global, word: &str, forgotten: &str) -> Result<(), NoCommand> {
+fn judge_place(alloc: Global, word: &str, forgotten: &str) -> Result<(), NoCommand>
+    ensures { OnOk result (reads_as_numbers_of word.now ≡ false) }
+{
     if reads_as_numbers(word.as_bytes()) {
         return Err(NoCommand::wrong(alloc, word, forgotten));
     }
@@ -356,7 +376,9 @@ const FOLDER_FORGOTTEN: &str =
     "numbers of records, where the folder of the export belongs; type it before them, as for-court 3 5-9; type ./ before a folder of this name";
 
 /// Where an export is written, and how its index is sorted. A folder that reads as numbers is refused.
-fn target_asked<'a>(alloc: Global, asked: &ArgMatches<'a>) -> Result<Target<'a>, NoCommand> {
+fn target_asked<'a>(alloc: Global, asked: &ArgMatches<'a>) -> Result<Target<'a>, NoCommand>
+    ensures { IfOk result (IsTarget (found_of asked.now)) }
+{
     let folder = required(asked, names::FOLDER)?;
     judge_place(alloc, folder, FOLDER_FORGOTTEN)?;
     Ok(Target {
@@ -370,7 +392,9 @@ const FILE_FORGOTTEN: &str =
     "numbers of records, where the file of the new store belongs, which gets all records; type ./ before a file of this name";
 
 /// The file of a copy. One that reads as numbers is refused.
-fn copy_asked<'a>(alloc: Global, asked: &ArgMatches<'a>) -> Result<Command<'a>, NoCommand> {
+fn copy_asked<'a>(alloc: Global, asked: &ArgMatches<'a>) -> Result<Command<'a>, NoCommand>
+    ensures { IfOk result (IsCopy (found_of asked.now)) }
+{
     let new = required(asked, names::NEW)?;
     judge_place(alloc, new, FILE_FORGOTTEN)?;
     Ok(Command::Copy {
@@ -380,7 +404,9 @@ fn copy_asked<'a>(alloc: Global, asked: &ArgMatches<'a>) -> Result<Command<'a>, 
 }
 
 /// What is done with the plan. `--yes` is refused where there is no plan to agree to.
-fn plan_asked<'a>(alloc: Global, asked: &ArgMatches<'a>) -> Result<Command<'a>, NoCommand> {
+fn plan_asked<'a>(alloc: Global, asked: &ArgMatches<'a>) -> Result<Command<'a>, NoCommand>
+    ensures { IfOk result (IsPlan (found_of asked.now)) }
+{
     let is_agreed = has_flag(asked, names::YES);
     match value_of(asked, names::NEW_PLAN) {
         Some(plan) => Ok(Command::ReplacePlan { plan, is_agreed }),
@@ -390,7 +416,9 @@ fn plan_asked<'a>(alloc: Global, asked: &ArgMatches<'a>) -> Result<Command<'a>, 
 }
 
 /// What is done with the titles of classes.
-fn titles_asked<'a>(asked: &ArgMatches<'a>) -> Command<'a> {
+fn titles_asked<'a>(asked: &ArgMatches<'a>) -> Command<'a>
+    ensures { IsTitles (found_of asked.now) result }
+{
     match value_of(asked, names::NEW_TITLES) {
         Some(titles) => Command::SetTitles { titles },
         None => Command::WriteTitles {
@@ -400,7 +428,9 @@ fn titles_asked<'a>(asked: &ArgMatches<'a>) -> Command<'a> {
 }
 
 /// What is to be destroyed.
-fn disposal_asked(alloc: Global, asked: &ArgMatches<'_>) -> Result<TypedDisposal, NoCommand> {
+fn disposal_asked(alloc: Global, asked: &ArgMatches<'_>) -> Result<TypedDisposal, NoCommand>
+    ensures { IfOk result (IsDisposal (found_of asked.now)) }
+{
     let day = day_asked(alloc, asked, names::DAY)?;
     let is_damaged = damage_asked(alloc, asked)?;
     let Numbers { alone, of_volumes } = numbers_asked(alloc, asked)?;
@@ -416,7 +446,9 @@ fn disposal_asked(alloc: Global, asked: &ArgMatches<'_>) -> Result<TypedDisposal
 }
 
 /// What is judged: the store, or rules. An officer is refused where there are no rules.
-fn check_asked<'a>(alloc: Global, asked: &ArgMatches<'a>) -> Result<Command<'a>, NoCommand> {
+fn check_asked<'a>(alloc: Global, asked: &ArgMatches<'a>) -> Result<Command<'a>, NoCommand>
+    ensures { IfOk result (IsCheck (found_of asked.now)) }
+{
     let officer = value_of(asked, names::OFFICER);
     match value_of(asked, names::RULES) {
         Some(rules) => Ok(Command::CheckRules(RulesChecked { rules, officer })),
@@ -431,7 +463,9 @@ fn check_asked<'a>(alloc: Global, asked: &ArgMatches<'a>) -> Result<Command<'a>,
 }
 
 /// Which record it is whose class is asked about, and by which rules.
-fn why_asked<'a>(alloc: Global, asked: &ArgMatches<'a>) -> Result<Why<'a>, NoCommand> {
+fn why_asked<'a>(alloc: Global, asked: &ArgMatches<'a>) -> Result<Why<'a>, NoCommand>
+    ensures { IfOk result (IsWhyOf (found_of asked.now)) }
+{
     Ok(Why {
         rules: required(asked, names::RULES)?,
         formerly: value_of(asked, names::FORMERLY),
@@ -441,7 +475,9 @@ fn why_asked<'a>(alloc: Global, asked: &ArgMatches<'a>) -> Result<Why<'a>, NoCom
 }
 
 /// What is made: a new store with a plan, or one of volumes that begins with a store that is there.
-fn create_asked<'a>(alloc: Global, asked: &ArgMatches<'a>) -> Result<Command<'a>, NoCommand> {
+fn create_asked<'a>(alloc: Global, asked: &ArgMatches<'a>) -> Result<Command<'a>, NoCommand>
+    ensures { IfOk result (IsCreate (found_of asked.now)) }
+{
     let size = size_asked(alloc, asked)?;
     match (value_of(asked, names::ADOPT), size) {
         (Some(file), Some(size)) => Ok(Command::Adopt { file, size }),
@@ -454,27 +490,35 @@ fn create_asked<'a>(alloc: Global, asked: &ArgMatches<'a>) -> Result<Command<'a>
 }
 
 /// What is exported, and where to.
-fn export_asked<'a>(alloc: Global, asked: &ArgMatches<'a>) -> Result<Command<'a>, NoCommand> {
+fn export_asked<'a>(alloc: Global, asked: &ArgMatches<'a>) -> Result<Command<'a>, NoCommand>
+    ensures { IfOk result (IsExport (found_of asked.now)) }
+{
     let target = target_asked(alloc, asked)?;
     let choice = choice_asked(alloc, asked)?;
     Ok(Command::Chosen(choice, ChosenTask::Export(target)))
 }
 
 /// What a page of HTML is written on.
-fn report_asked<'a>(alloc: Global, asked: &ArgMatches<'a>) -> Result<Command<'a>, NoCommand> {
+fn report_asked<'a>(alloc: Global, asked: &ArgMatches<'a>) -> Result<Command<'a>, NoCommand>
+    ensures { IfOk result (IsReport (found_of asked.now)) }
+{
     let day = day_asked(alloc, asked, names::DAY)?;
     let choice = conditions_asked(alloc, asked)?;
     Ok(Command::Chosen(choice, ChosenTask::Report { day }))
 }
 
 /// What is destroyed, or listed as what may be.
-fn dispose_asked<'a>(alloc: Global, asked: &ArgMatches<'a>) -> Result<Command<'a>, NoCommand> {
+fn dispose_asked<'a>(alloc: Global, asked: &ArgMatches<'a>) -> Result<Command<'a>, NoCommand>
+    ensures { IfOk result (IsDispose (found_of asked.now)) }
+{
     let typed = disposal_asked(alloc, asked)?;
     Ok(Command::Dispose(approved_asked(alloc, asked, typed)?))
 }
 
 /// The record whose message is written.
-fn show_asked<'a>(alloc: Global, asked: &ArgMatches<'a>) -> Result<Command<'a>, NoCommand> {
+fn show_asked<'a>(alloc: Global, asked: &ArgMatches<'a>) -> Result<Command<'a>, NoCommand>
+    ensures { IfOk result (IsShow (found_of asked.now)) }
+{
     Ok(Command::Show {
         record: record_asked(alloc, asked)?,
         fields: has_flag(asked, names::FIELDS),
@@ -482,7 +526,9 @@ fn show_asked<'a>(alloc: Global, asked: &ArgMatches<'a>) -> Result<Command<'a>, 
 }
 
 /// How the message on standard input is captured.
-fn deliver_asked<'a>(alloc: Global, asked: &ArgMatches<'a>) -> Result<Command<'a>, NoCommand> {
+fn deliver_asked<'a>(alloc: Global, asked: &ArgMatches<'a>) -> Result<Command<'a>, NoCommand>
+    ensures { IfOk result (IsDeliver (found_of asked.now)) }
+{
     Ok(Command::Deliver {
         filing: filing_asked(alloc, asked)?,
         is_as_is: has_flag(asked, names::AS_IS),
@@ -494,7 +540,9 @@ fn command_asked<'a>(
     alloc: Global,
     name: &str,
     asked: &ArgMatches<'a>,
-) -> Result<Command<'a>, NoCommand> {
+) -> Result<Command<'a>, NoCommand>
+    ensures { IfOk result (IsCommand name.now (found_of asked.now)) }
+{
     match name {
         "create" => create_asked(alloc, asked),
         "plan" => plan_asked(alloc, asked),
@@ -529,7 +577,9 @@ fn line_asked<'a>(
     alloc: Global,
     name: &str,
     asked: &ArgMatches<'a>,
-) -> Result<CommandLine<'a>, NoCommand> {
+) -> Result<CommandLine<'a>, NoCommand>
+    ensures { IfOk result (IsLine name.now (found_of asked.now)) }
+{
     let store = required(asked, names::STORE)?;
     let attribution = attribution_asked(alloc, asked)?;
     let command = command_asked(alloc, name, asked)?;
@@ -542,7 +592,9 @@ fn line_asked<'a>(
 }
 
 /// What the words that were found ask for.
-fn read_matches<'a>(alloc: Global, matches: &ArgMatches<'a>) -> Result<CommandLine<'a>, NoCommand> {
+fn read_matches<'a>(alloc: Global, matches: &ArgMatches<'a>) -> Result<CommandLine<'a>, NoCommand>
+    ensures { IfOk result (IsLineOf matches.now) }
+{
     match matches.subcommand() {
         Some((name, asked)) => line_asked(alloc, name, asked),
         None => Err(NoCommand::Unread),
@@ -580,7 +632,9 @@ fn with_forgotten(alloc: Global, words: &[String], refusal: NoCommand) -> NoComm
 pub fn read_command_line<'a>(
     rt: &HostRuntime,
     words: &'a [String],
-) -> Result<CommandLine<'a>, NoCommand> {
+) -> Result<CommandLine<'a>, NoCommand>
+    ensures { IfOk result IsRead }
+{
     let alloc = rt.alloc();
     match read_words(rt, &words::program(alloc)?, words) {
         Ok(matches) => read_matches(alloc, &matches),

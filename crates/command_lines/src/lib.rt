@@ -2,6 +2,7 @@
 //!
 //! - `streams`: the standard streams of the process;
 //! - `table`: subcommands with their words, as data; `reading`: the words that `clap` finds by them;
+//! - `days`: days as they are typed;
 //! - `hints`: the option that is meant by a word that is none;
 //! - `wrapping`: help, at most 80 columns wide;
 //! - `session`, `archives` and `tools`: the command lines of `mailfile`, `mailfile-store` and `mailfile-tool`.
@@ -10,6 +11,7 @@
 #![tactic(auto)]
 
 pub mod archives;
+mod days;
 mod hints;
 mod reading;
 pub mod session;

@@ -1,11 +1,14 @@
 //! Words of a command line, which `clap` reads by a program's table.
 
+ghost use Rattle.std.specs.Prelude.{◌≡◌, IfOk, Some, map, option_map};
+ghost use Rattle.clap.specs.Matches.{found_of};
+ghost use Rattle.command_lines.specs.Asked.{all_values_in, is_given, text_of, value_in};
+
 use crate::hints::{hint_on, stray_on};
 use crate::table::{Hint, Program, command_of};
 use crate::wrapping::push_wrapped;
 use clap::error::ErrorKind;
 use clap::{ArgMatches, Command, Error};
-use jiff::civil::Date;
 use std::alloc::{AllocError, AllocFailed, Global};
 use std::fmt::Display;
 use std::{env, io};
@@ -194,12 +197,16 @@ pub(crate) fn read_words<'a>(
 }
 
 /// The value of the word of a name, if it is given.
-pub(crate) fn value_of<'a>(asked: &ArgMatches<'a>, name: &str) -> Option<&'a str> {
+pub(crate) fn value_of<'a>(asked: &ArgMatches<'a>, name: &str) -> Option<&'a str>
+    ensures { text_of result ≡ value_in (found_of asked.now) name.now }
+{
     asked.get_str(name)
 }
 
 /// The value of the word of a name, which must be given.
-pub(crate) fn required<'a>(asked: &ArgMatches<'a>, name: &str) -> Result<&'a str, NoCommand> {
+pub(crate) fn required<'a>(asked: &ArgMatches<'a>, name: &str) -> Result<&'a str, NoCommand>
+    ensures { IfOk result (λ s. value_in (found_of asked.now) name.now ≡ Some s.now) }
+{
     match value_of(asked, name) {
         Some(value) => Ok(value),
         None => Err(NoCommand::Unread),
@@ -207,37 +214,16 @@ pub(crate) fn required<'a>(asked: &ArgMatches<'a>, name: &str) -> Result<&'a str
 }
 
 /// The values of the word of a name, in the order in which they are given, if any is.
-pub(crate) fn values_of<'m, 'a>(asked: &'m ArgMatches<'a>, name: &str) -> Option<&'m [&'a str]> {
+pub(crate) fn values_of<'m, 'a>(asked: &'m ArgMatches<'a>, name: &str) -> Option<&'m [&'a str]>
+    ensures { option_map (λ s. map (λ v. v.now) s.now) result
+        ≡ all_values_in (found_of asked.now) name.now }
+{
     asked.get_strs(name)
 }
 
 /// Whether the flag of a name is given.
-pub(crate) fn has_flag(asked: &ArgMatches<'_>, name: &str) -> bool {
-    asked.get_flag(name)
-}
-
-/// The number of a word of exactly `count` decimal digits.
-fn digits(word: &str, count: usize) -> Option<i16> {
-    if word.len() != count {
-        return None;
-    }
-    for octet in word.as_bytes() {
-        if !octet.is_ascii_digit() {
-            return None;
-        }
-    }
-    word.parse().ok()
-}
-
-/// The day of a text `YYYY-MM-DD`, of 1970 to 9999; none for any other text.
-pub(crate) fn day_of(text: &str) -> Option<Date> {
-    let (year, rest) = text.split_once('-')?;
-    let (month, day) = rest.split_once('-')?;
-    let year = digits(year, 4)?;
-    if year < 1970 {
-        return None;
-    }
-    let month = i8::try_from(digits(month, 2)?).ok()?;
-    let day = i8::try_from(digits(day, 2)?).ok()?;
-    Date::new(year, month, day).ok()
+pub(crate) fn has_flag(asked: &ArgMatches<'_>, name: &str) -> bool
+    ensures { result ≡ is_given (found_of asked.now) name.now }
+{
+    asked.get_one(name).unwrap_or(false)
 }

@@ -3,7 +3,8 @@
 mod names;
 mod words;
 
-use crate::reading::{NoCommand, day_of, has_flag, read_words, required, value_of, values_of};
+use crate::days::day_of;
+use crate::reading::{NoCommand, has_flag, read_words, required, value_of, values_of};
 use clap::ArgMatches;
 use jiff::civil::Date;
 use session_words::read_number;

@@ -1,5 +1,9 @@
 //! What a command line says of the records that were approved for destruction.
 
+ghost use Rattle.std.specs.Prelude.{◌≡◌, IfOk};
+ghost use Rattle.clap.specs.Matches.{found_of};
+ghost use Rattle.command_lines.specs.Changes.{is_of_all, IsApproved};
+
 use super::{Disposal, names};
 use crate::reading::{NoCommand, value_of};
 use crate::table::{OPTION, Stray, StrayKind, Word};
@@ -43,7 +47,9 @@ pub struct TypedDisposal {
 
 impl TypedDisposal {
     /// Whether no number is typed, with a volume or without.
-    fn is_of_all(&self) -> bool {
+    fn is_of_all(&self) -> bool
+        ensures { result ≡ is_of_all self.now }
+    {
         self.alone.numbers.is_empty() && self.of_volumes.is_empty()
     }
 }
@@ -61,7 +67,10 @@ pub(super) fn approved_asked<'a>(
     alloc: Global,
     asked: &ArgMatches<'a>,
     typed: TypedDisposal,
-) -> Result<DisposalAsked<'a>, NoCommand> {
+) -> Result<DisposalAsked<'a>, NoCommand>
+    ensures typed { IfOk result (λ a. a.typed ≡ typed) }
+    ensures approved { IfOk result (IsApproved (found_of asked.now)) }
+{
     let approved = value_of(asked, names::APPROVED);
     if approved.is_some() && !typed.is_of_all() {
         let reason = "--approved takes the numbers from its file; type none beside it";

@@ -1,21 +1,38 @@
 //! What a command line says of how mail is captured: by which rules, as of which moment, for how long, and what is told of it.
 
+ghost use Rattle.std.specs.Prelude.{◌≡◌, ◌*ℤ◌, codes, pos, IfOk, IfSome, Some};
+ghost use Rattle.jiff.specs.Words.{epoch_day};
+ghost use Rattle.clap.specs.Matches.{found_of};
+ghost use Rattle.command_lines.specs.Asked.{value_in};
+ghost use Rattle.command_lines.specs.Captures.{limit_typed, IsFiling, IsFirstSecond, IsIntake, IsMoment, IsSecond};
+
 use super::{Command, Filing, Moment, Telling, names};
-use crate::reading::{NoCommand, day_of, has_flag, required, value_of};
+use crate::days::day_of;
+use crate::reading::{NoCommand, has_flag, required, value_of};
 use clap::ArgMatches;
 use jiff::civil::{Date, date};
 use session_words::read_number;
 use std::alloc::Global;
 
+/// How many hours there are from the beginning of 1970 to that of a day, in UTC.
+fn hours_before(day: Date) -> i64
+    ensures { result ≡ epoch_day day *ℤ pos 24 }
+{
+    date(1970, 1, 1).duration_until(day).as_hours()
+}
+
 /// The first second of a day in UTC, in seconds since 1970; none for a day before.
-fn first_second_of(day: Date) -> Option<u64> {
-    let hours = date(1970, 1, 1).duration_until(day).as_hours();
-    u64::try_from(hours).ok()?.checked_mul(3_600)
+fn first_second_of(day: Date) -> Option<u64>
+    ensures { IfSome result (IsFirstSecond day) }
+{
+    u64::try_from(hours_before(day)).ok()?.checked_mul(3_600)
 }
 
 /// The moment that a word is: a number of seconds since 1970, of 64 bits in decimal digits without a leading zero, or a day of
 /// 1970 to 9999, which begins at midnight in UTC. None for any other word.
-fn moment_of(word: &str) -> Option<u64> {
+fn moment_of(word: &str) -> Option<u64>
+    ensures { IfSome result (IsSecond word.now) }
+{
     match read_number(word.as_bytes(), u64::MAX) {
         Some(seconds) => Some(seconds),
         None => first_second_of(day_of(word)?),
@@ -23,7 +40,9 @@ fn moment_of(word: &str) -> Option<u64> {
 }
 
 /// The moment of a capture.
-fn moment_asked(alloc: Global, asked: &ArgMatches<'_>) -> Result<Moment, NoCommand> {
+fn moment_asked(alloc: Global, asked: &ArgMatches<'_>) -> Result<Moment, NoCommand>
+    ensures { IfOk result (IsMoment (value_in (found_of asked.now) (codes "at"))) }
+{
     match value_of(asked, names::AT) {
         None => Ok(Moment::Unnamed),
         Some("now") => Ok(Moment::Now),
@@ -46,7 +65,9 @@ const LIMIT: u64 = 60;
 const GREATEST_LIMIT: u64 = 86_400;
 
 /// How long the work on a message may take, in seconds.
-fn limit_asked(alloc: Global, asked: &ArgMatches<'_>) -> Result<u64, NoCommand> {
+fn limit_asked(alloc: Global, asked: &ArgMatches<'_>) -> Result<u64, NoCommand>
+    ensures { IfOk result (λ limit. limit_typed (value_in (found_of asked.now) (codes "limit")) ≡ Some limit) }
+{
     let Some(word) = value_of(asked, names::LIMIT) else {
         return Ok(LIMIT);
     };
@@ -65,7 +86,9 @@ fn limit_asked(alloc: Global, asked: &ArgMatches<'_>) -> Result<u64, NoCommand> 
 pub(super) fn filing_asked<'a>(
     alloc: Global,
     asked: &ArgMatches<'a>,
-) -> Result<Filing<'a>, NoCommand> {
+) -> Result<Filing<'a>, NoCommand>
+    ensures { IfOk result (IsFiling (found_of asked.now)) }
+{
     Ok(Filing {
         rules: required(asked, names::RULES)?,
         officer: required(asked, names::OFFICER)?,
@@ -79,7 +102,9 @@ pub(super) fn filing_asked<'a>(
 pub(super) fn intake_asked<'a>(
     alloc: Global,
     asked: &ArgMatches<'a>,
-) -> Result<Command<'a>, NoCommand> {
+) -> Result<Command<'a>, NoCommand>
+    ensures { IfOk result (IsIntake (found_of asked.now)) }
+{
     Ok(Command::Intake {
         maildir: required(asked, names::MAILDIR)?,
         filing: filing_asked(alloc, asked)?,

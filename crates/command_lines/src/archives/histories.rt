@@ -1,8 +1,14 @@
 //! What a command line asks of a history, and what it tells for one.
 
-ghost use Rattle.std.specs.Prelude.{◌≡◌, is_some, IfOk, IfSome};
+ghost use Rattle.std.specs.Prelude.{◌≡◌, [], codes, is_some, length, nat_le, true, unwrap_or, IfOk, IfSome, IsTrue, OnOk};
+ghost use Rattle.std.specs.List.{list_all};
+ghost use Rattle.clap.specs.Matches.{found_of};
 ghost use Rattle.choice_words.specs.Typed.{is_named_or_none};
+ghost use Rattle.command_lines.specs.Asked.{text_of, value_in};
 ghost use Rattle.command_lines.specs.Histories.{IsAskedFor};
+ghost use Rattle.command_lines.specs.Stores.{is_mark, is_mark_octet, IsHead};
+ghost use Rattle.command_lines.specs.Tasks.{changes_in, is_chosen, kind_of, needs_reason, task_of, AreEvents, IsChange, IsJudged, IsKind, IsTask, IsTold, StandsAlone};
+ghost use Rattle.session_words.specs.Words.{is_name as is_name_of};
 
 use super::numbers::{Numbers, numbers_asked, numbers_in_volume};
 use super::questions::day_asked;
@@ -93,7 +99,9 @@ impl<'a> TypedHistory<'a> {
     }
 
     /// Whether something that is printed is chosen, but for who did it.
-    fn is_chosen(&self) -> bool {
+    fn is_chosen(&self) -> bool
+        ensures { result ≡ is_chosen self.now }
+    {
         let asked = &self.alone;
         !asked.numbers.is_empty()
             || !self.of_volumes.is_empty()
@@ -132,7 +140,9 @@ fn is_blank(text: &str) -> bool {
 }
 
 /// Whether a text can be a reason: it is not too long, is not of blanks alone, and is printed as it is.
-fn is_reason(alloc: Global, text: &str) -> Result<bool, AllocError> {
+fn is_reason(alloc: Global, text: &str) -> Result<bool, AllocError>
+    ensures { IfOk result (λ is. IsTrue is → nat_le (length text.now) 500 ≡ true) }
+{
     if text.len() > LONGEST_REASON || is_blank(text) {
         return Ok(false);
     }
@@ -142,7 +152,9 @@ fn is_reason(alloc: Global, text: &str) -> Result<bool, AllocError> {
 }
 
 /// Whether a word can be a name for the history. One that begins with two hyphens is an option before which a name is missing.
-fn is_name_told(word: &str) -> bool {
+fn is_name_told(word: &str) -> bool
+    ensures { IsTrue result → is_name_of word.now ≡ true }
+{
     is_name(word.as_bytes()) && !word.starts_with("--")
 }
 
@@ -168,7 +180,10 @@ pub(super) fn judge_author(
 }
 
 /// A name for the history, where one is given.
-fn name_told<'a>(alloc: Global, asked: &ArgMatches<'a>) -> Result<Option<&'a str>, NoCommand> {
+fn name_told<'a>(alloc: Global, asked: &ArgMatches<'a>) -> Result<Option<&'a str>, NoCommand>
+    ensures typed { IfOk result (λ name. text_of name ≡ value_in (found_of asked.now) (codes "by")) }
+    ensures name { IfOk result (λ name. IfSome name (λ n. is_name_of n.now ≡ true)) }
+{
     match value_of(asked, names::BY) {
         Some(name) if !is_name_told(name) => {
             let reason = "who does it is told by 1 to 64 visible ASCII characters, as ann";
@@ -179,7 +194,10 @@ fn name_told<'a>(alloc: Global, asked: &ArgMatches<'a>) -> Result<Option<&'a str
 }
 
 /// A reason for the history.
-fn reason_told<'a>(alloc: Global, asked: &ArgMatches<'a>) -> Result<&'a str, NoCommand> {
+fn reason_told<'a>(alloc: Global, asked: &ArgMatches<'a>) -> Result<&'a str, NoCommand>
+    ensures typed { IfOk result (λ text. text.now ≡ unwrap_or (value_in (found_of asked.now) (codes "reason")) []) }
+    ensures short { IfOk result (λ text. nat_le (length text.now) 500 ≡ true) }
+{
     let text = value_of(asked, names::REASON).unwrap_or("");
     if is_reason(alloc, text)? {
         return Ok(text);
@@ -193,40 +211,39 @@ fn reason_told<'a>(alloc: Global, asked: &ArgMatches<'a>) -> Result<&'a str, NoC
 pub(super) fn attribution_asked<'a>(
     alloc: Global,
     asked: &ArgMatches<'a>,
-) -> Result<Attribution<'a>, NoCommand> {
+) -> Result<Attribution<'a>, NoCommand>
+    ensures { IfOk result (IsTold (found_of asked.now)) }
+{
     Ok(Attribution {
         by: name_told(alloc, asked)?,
         reason: reason_told(alloc, asked)?,
     })
 }
 
-/// The words for kinds of deeds.
-const KINDS: &[(&str, DeedKind)] = &[
-    ("captured", DeedKind::Captured),
-    ("held", DeedKind::Held),
-    ("released", DeedKind::Released),
-    ("refiled", DeedKind::Refiled),
-    ("destroyed", DeedKind::Destroyed),
-    ("added", DeedKind::Added),
-    ("replaced", DeedKind::Replaced),
-    ("titled", DeedKind::Titled),
-    ("made", DeedKind::Made),
-    ("found", DeedKind::Found),
-    ("accepted", DeedKind::Accepted),
-];
-
 /// The kind of a word.
-fn kind_of(word: &str) -> Option<DeedKind> {
-    for (name, kind) in KINDS {
-        if *name == word {
-            return Some(*kind);
-        }
+fn kind_of(word: &str) -> Option<DeedKind>
+    ensures { result ≡ kind_of word.now }
+{
+    match word {
+        "captured" => Some(DeedKind::Captured),
+        "held" => Some(DeedKind::Held),
+        "released" => Some(DeedKind::Released),
+        "refiled" => Some(DeedKind::Refiled),
+        "destroyed" => Some(DeedKind::Destroyed),
+        "added" => Some(DeedKind::Added),
+        "replaced" => Some(DeedKind::Replaced),
+        "titled" => Some(DeedKind::Titled),
+        "made" => Some(DeedKind::Made),
+        "found" => Some(DeedKind::Found),
+        "accepted" => Some(DeedKind::Accepted),
+        _ => None,
     }
-    None
 }
 
 /// A kind of deed, where one is asked for.
-fn kind_asked(alloc: Global, asked: &ArgMatches<'_>) -> Result<Option<DeedKind>, NoCommand> {
+fn kind_asked(alloc: Global, asked: &ArgMatches<'_>) -> Result<Option<DeedKind>, NoCommand>
+    ensures { IfOk result (IsKind (value_in (found_of asked.now) (codes "deeds"))) }
+{
     let Some(word) = value_of(asked, names::DEEDS) else {
         return Ok(None);
     };
@@ -241,7 +258,9 @@ fn kind_asked(alloc: Global, asked: &ArgMatches<'_>) -> Result<Option<DeedKind>,
 }
 
 /// Which events are asked for.
-fn events_asked<'a>(alloc: Global, asked: &ArgMatches<'a>) -> Result<TypedHistory<'a>, NoCommand> {
+fn events_asked<'a>(alloc: Global, asked: &ArgMatches<'a>) -> Result<TypedHistory<'a>, NoCommand>
+    ensures { IfOk result (AreEvents (found_of asked.now)) }
+{
     let Numbers { alone, of_volumes } = numbers_asked(alloc, asked)?;
     let alone = HistoryAsked {
         numbers: alone,
@@ -271,7 +290,9 @@ const CHANGES: &[(&str, Change)] = &[
 ];
 
 /// The change of a history that is asked for, if one is. Two at once are refused.
-fn change_asked(alloc: Global, asked: &ArgMatches<'_>) -> Result<Option<Change>, NoCommand> {
+fn change_asked(alloc: Global, asked: &ArgMatches<'_>) -> Result<Option<Change>, NoCommand>
+    ensures { IfOk result (IsChange (changes_in (found_of asked.now))) }
+{
     let mut change = None;
     for (name, named) in CHANGES {
         if has_flag(asked, name) {
@@ -287,7 +308,9 @@ fn change_asked(alloc: Global, asked: &ArgMatches<'_>) -> Result<Option<Change>,
 }
 
 /// Whether a change of a history always needs a reason.
-fn needs_reason(change: Change) -> bool {
+fn needs_reason(change: Change) -> bool
+    ensures { result ≡ needs_reason change }
+{
     match change {
         Change::WaiveReasons | Change::AcceptFound => true,
         Change::Begin | Change::RequireReasons => false,
@@ -295,7 +318,9 @@ fn needs_reason(change: Change) -> bool {
 }
 
 /// The task that a change of a history is.
-fn task_of<'a>(change: Change) -> HistoryTask<'a> {
+fn task_of<'a>(change: Change) -> HistoryTask<'a>
+    ensures { result ≡ task_of change }
+{
     match change {
         Change::Begin => HistoryTask::Begin,
         Change::RequireReasons => HistoryTask::Reasons(Reasons::Required),
@@ -310,7 +335,9 @@ fn judge_change(
     asked: &ArgMatches<'_>,
     events: &TypedHistory<'_>,
     change: Change,
-) -> Result<(), NoCommand> {
+) -> Result<(), NoCommand>
+    ensures { OnOk result (StandsAlone (found_of asked.now) events.now change) }
+{
     if events.is_chosen() {
         let reason =
             "--begin, --require-reason, --waive-reason and --accept-found stand with --by and --reason alone";
@@ -328,15 +355,21 @@ fn judged_change(
     alloc: Global,
     asked: &ArgMatches<'_>,
     events: &TypedHistory<'_>,
-) -> Result<Option<Change>, NoCommand> {
-    let change = change_asked(alloc, asked)?;
-    if let Some(change) = change {
-        judge_change(alloc, asked, events, change)?;
-    } else if value_of(asked, names::REASON).is_some() {
-        let reason = "--reason needs --begin, --require-reason, --waive-reason or --accept-found";
-        return Err(NoCommand::refused(alloc, reason));
+) -> Result<Option<Change>, NoCommand>
+    ensures { IfOk result (IsJudged (found_of asked.now) events.now) }
+{
+    match change_asked(alloc, asked)? {
+        Some(change) => {
+            judge_change(alloc, asked, events, change)?;
+            Ok(Some(change))
+        }
+        None if value_of(asked, names::REASON).is_some() => {
+            let reason =
+                "--reason needs --begin, --require-reason, --waive-reason or --accept-found";
+            Err(NoCommand::refused(alloc, reason))
+        }
+        None => Ok(None),
     }
-    Ok(change)
 }
 
 /// What is done with a history. A reason is refused where it is not changed, and a choice of events where it is; a reason that is
@@ -344,7 +377,9 @@ fn judged_change(
 pub(super) fn history_asked<'a>(
     alloc: Global,
     asked: &ArgMatches<'a>,
-) -> Result<HistoryTask<'a>, NoCommand> {
+) -> Result<HistoryTask<'a>, NoCommand>
+    ensures { IfOk result (IsTask (found_of asked.now)) }
+{
     let events = events_asked(alloc, asked)?;
     match judged_change(alloc, asked, &events)? {
         Some(change) => Ok(task_of(change)),
@@ -352,21 +387,34 @@ pub(super) fn history_asked<'a>(
     }
 }
 
+/// Whether an octet is a hexadecimal digit, as it is printed.
+fn is_mark_octet(octet: u8) -> bool
+    ensures { result ≡ is_mark_octet octet }
+{
+    matches!(octet, b'0'..=b'9' | b'a'..=b'f')
+}
+
+/// Whether all octets are such digits.
+fn are_mark_octets(word: &[u8]) -> bool
+    ensures { result ≡ list_all is_mark_octet word.now }
+{
+    word.iter().all(|octet| is_mark_octet(*octet))
+}
+
 /// Whether a text is a mark: 64 hexadecimal digits, as they are printed.
-fn is_mark(text: &str) -> bool {
-    for octet in text.as_bytes() {
-        if !matches!(*octet, b'0'..=b'9' | b'a'..=b'f') {
-            return false;
-        }
-    }
-    text.len() == 64
+fn is_mark(text: &str) -> bool
+    ensures { result ≡ is_mark text.now }
+{
+    text.len() == 64 && are_mark_octets(text.as_bytes())
 }
 
 /// A mark that is looked for.
 pub(super) fn head_asked<'a>(
     alloc: Global,
     asked: &ArgMatches<'a>,
-) -> Result<Option<&'a str>, NoCommand> {
+) -> Result<Option<&'a str>, NoCommand>
+    ensures { IfOk result (IsHead (value_in (found_of asked.now) (codes "head"))) }
+{
     match value_of(asked, names::HEAD) {
         Some(mark) if !is_mark(mark) => {
             let reason =

@@ -1,5 +1,10 @@
 //! What a command line asks of holds.
 
+ghost use Rattle.std.specs.Prelude.{IfOk};
+ghost use Rattle.clap.specs.Matches.{found_of};
+ghost use Rattle.command_lines.specs.Changes.{IsHolding, IsHoldName, IsNewName, IsRelease, IsWhole};
+ghost use Rattle.command_lines.specs.Chosen.{AreHeld};
+
 use super::questions::typed_of;
 use super::{ChosenTask, Command, judge_place, names};
 use crate::reading::{NoCommand, has_flag, required};
@@ -9,7 +14,9 @@ use session_words::is_name;
 use std::alloc::Global;
 
 /// The name of a hold.
-fn name_asked<'a>(alloc: Global, asked: &ArgMatches<'a>) -> Result<&'a str, NoCommand> {
+fn name_asked<'a>(alloc: Global, asked: &ArgMatches<'a>) -> Result<&'a str, NoCommand>
+    ensures { IfOk result (λ name. IsHoldName (found_of asked.now) name.now) }
+{
     let name = required(asked, names::NAME)?;
     if is_name(name.as_bytes()) {
         return Ok(name);
@@ -23,7 +30,9 @@ pub(super) const NAME_FORGOTTEN: &str =
     "numbers of records, where the name of the hold belongs; type it before them, as audit 3 5-9";
 
 /// The name of a hold that is to be placed. One that reads as numbers is refused.
-fn new_name_asked<'a>(alloc: Global, asked: &ArgMatches<'a>) -> Result<&'a str, NoCommand> {
+fn new_name_asked<'a>(alloc: Global, asked: &ArgMatches<'a>) -> Result<&'a str, NoCommand>
+    ensures { IfOk result (λ name. IsNewName (found_of asked.now) name.now) }
+{
     let name = name_asked(alloc, asked)?;
     judge_place(alloc, name, NAME_FORGOTTEN)?;
     Ok(name)
@@ -35,7 +44,9 @@ pub(super) fn held_asked<'a>(
     asked: &ArgMatches<'a>,
     name: &str,
     missing: &str,
-) -> Result<TypedChoice<'a>, NoCommand> {
+) -> Result<TypedChoice<'a>, NoCommand>
+    ensures { IfOk result (AreHeld (found_of asked.now)) }
+{
     let choice = typed_of(alloc, asked)?;
     if choice.is_empty() {
         return Err(NoCommand::wrong(alloc, name, missing));
@@ -55,7 +66,9 @@ const NONE_TO_RELEASE: &str =
 pub(super) fn hold_asked<'a>(
     alloc: Global,
     asked: &ArgMatches<'a>,
-) -> Result<Command<'a>, NoCommand> {
+) -> Result<Command<'a>, NoCommand>
+    ensures { IfOk result (IsHolding (found_of asked.now)) }
+{
     let name = new_name_asked(alloc, asked)?;
     let choice = held_asked(alloc, asked, name, NONE_TO_HOLD)?;
     Ok(Command::Chosen(choice, ChosenTask::Hold(name)))
@@ -66,7 +79,9 @@ fn whole_asked<'a>(
     alloc: Global,
     asked: &ArgMatches<'a>,
     name: &'a str,
-) -> Result<Command<'a>, NoCommand> {
+) -> Result<Command<'a>, NoCommand>
+    ensures { IfOk result (IsWhole (found_of asked.now) name.now) }
+{
     if !typed_of(alloc, asked)?.is_empty() {
         let reason = "--all ends the hold on each record; it takes no numbers and no conditions";
         return Err(NoCommand::refused(alloc, reason));
@@ -81,7 +96,9 @@ fn whole_asked<'a>(
 pub(super) fn release_asked<'a>(
     alloc: Global,
     asked: &ArgMatches<'a>,
-) -> Result<Command<'a>, NoCommand> {
+) -> Result<Command<'a>, NoCommand>
+    ensures { IfOk result (IsRelease (found_of asked.now)) }
+{
     let name = name_asked(alloc, asked)?;
     if has_flag(asked, names::ALL) {
         return whole_asked(alloc, asked, name);

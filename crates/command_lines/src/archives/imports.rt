@@ -1,8 +1,14 @@
 //! What a command line asks of an import.
 
+ghost use Rattle.std.specs.Prelude.{codes, IfOk};
+ghost use Rattle.clap.specs.Matches.{found_of};
+ghost use Rattle.command_lines.specs.Asked.{value_in};
+ghost use Rattle.command_lines.specs.Captures.{Imports, IsDated};
+
 use super::captures::filing_asked;
 use super::{Filing, names};
-use crate::reading::{NoCommand, day_of, has_flag, required, values_of};
+use crate::days::day_of;
+use crate::reading::{NoCommand, has_flag, required, values_of};
 use clap::ArgMatches;
 use jiff::civil::Date;
 use std::alloc::Global;
@@ -37,7 +43,9 @@ pub struct Import<'a> {
 }
 
 /// What gives the moment of a message's capture.
-fn dating_asked(alloc: Global, asked: &ArgMatches<'_>) -> Result<Dating, NoCommand> {
+fn dating_asked(alloc: Global, asked: &ArgMatches<'_>) -> Result<Dating, NoCommand>
+    ensures { IfOk result (IsDated (value_in (found_of asked.now) (codes "dated"))) }
+{
     let word = required(asked, names::DATED)?;
     match word {
         "received" => Ok(Dating::Received),
@@ -58,7 +66,9 @@ fn dating_asked(alloc: Global, asked: &ArgMatches<'_>) -> Result<Dating, NoComma
 pub(super) fn import_asked<'a>(
     alloc: Global,
     asked: &ArgMatches<'a>,
-) -> Result<Import<'a>, NoCommand> {
+) -> Result<Import<'a>, NoCommand>
+    ensures { IfOk result (Imports (found_of asked.now)) }
+{
     let typed = values_of(asked, names::SOURCES).unwrap_or(&[]);
     let filing = filing_asked(alloc, asked)?;
     let dating = dating_asked(alloc, asked)?;

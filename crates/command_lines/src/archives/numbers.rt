@@ -1,7 +1,9 @@
 //! The numbers of records that a command line has, with the number of their volume or without.
 
-ghost use Rattle.std.specs.Prelude.{◌≡◌, [], map, IfOk};
-ghost use Rattle.command_lines.specs.Numbers.{AddsWord, AreOfVolume, AreTyped, number_typed};
+ghost use Rattle.std.specs.Prelude.{◌≡◌, [], codes, map, IfOk, MatchOption, None, Some};
+ghost use Rattle.clap.specs.Matches.{found_of};
+ghost use Rattle.command_lines.specs.Asked.{value_in, values_in};
+ghost use Rattle.command_lines.specs.Numbers.{AddsWord, AreOfVolume, AreTyped, IsNumberOf, number_typed};
 
 use super::{TypedNumber, names};
 use crate::reading::{NoCommand, required, seen, value_of, values_of};
@@ -28,7 +30,9 @@ fn volume_and_number(word: &[u8]) -> Option<(Option<u32>, u32)>
 }
 
 /// The number of a record, as it is typed. Any other word is refused for a reason.
-fn number_of<'a>(alloc: Global, word: &'a str, reason: &str) -> Result<TypedNumber<'a>, NoCommand> {
+fn number_of<'a>(alloc: Global, word: &'a str, reason: &str) -> Result<TypedNumber<'a>, NoCommand>
+    ensures { IfOk result (IsNumberOf (Some word.now)) }
+{
     match volume_and_number(word.as_bytes()) {
         Some((volume, number)) => Ok(TypedNumber {
             word,
@@ -43,7 +47,9 @@ fn number_of<'a>(alloc: Global, word: &'a str, reason: &str) -> Result<TypedNumb
 pub(super) fn record_asked<'a>(
     alloc: Global,
     asked: &ArgMatches<'a>,
-) -> Result<TypedNumber<'a>, NoCommand> {
+) -> Result<TypedNumber<'a>, NoCommand>
+    ensures { IfOk result (IsNumberOf (value_in (found_of asked.now) (codes "number"))) }
+{
     number_of(
         alloc,
         required(asked, names::NUMBER)?,
@@ -55,7 +61,10 @@ pub(super) fn record_asked<'a>(
 pub(super) fn first_asked<'a>(
     alloc: Global,
     asked: &ArgMatches<'a>,
-) -> Result<Option<TypedNumber<'a>>, NoCommand> {
+) -> Result<Option<TypedNumber<'a>>, NoCommand>
+    ensures { IfOk result (λ first. MatchOption first (value_in (found_of asked.now) (codes "from") ≡ None)
+        (IsNumberOf (value_in (found_of asked.now) (codes "from")))) }
+{
     let Some(word) = value_of(asked, names::FROM) else {
         return Ok(None);
     };
@@ -167,6 +176,8 @@ fn numbers_of(alloc: Global, typed: &[&str]) -> Result<Numbers, NoCommand>
 }
 
 /// The numbers of records that are given, and the ranges of them, with a volume or without.
-pub(super) fn numbers_asked(alloc: Global, asked: &ArgMatches<'_>) -> Result<Numbers, NoCommand> {
+pub(super) fn numbers_asked(alloc: Global, asked: &ArgMatches<'_>) -> Result<Numbers, NoCommand>
+    ensures { IfOk result (AreTyped (values_in (found_of asked.now) (codes "chosen"))) }
+{
     numbers_of(alloc, values_of(asked, names::NUMBERS).unwrap_or(&[]))
 }

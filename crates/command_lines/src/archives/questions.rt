@@ -1,8 +1,15 @@
 //! What a command line asks of records: their numbers, and conditions that they meet.
 
+ghost use Rattle.std.specs.Prelude.{◌≡◌, [], IfOk};
+ghost use Rattle.clap.specs.Matches.{found_of};
+ghost use Rattle.command_lines.specs.Asked.{text_in, text_of, value_in};
+ghost use Rattle.command_lines.specs.Chosen.{are_backwards, AreChosen, AreConditioned, AreConditions, AreDays, AreMeant};
+ghost use Rattle.command_lines.specs.Days.{IsDay};
+
 use super::names;
 use super::numbers::{Numbers, first_asked, numbers_asked};
-use crate::reading::{NoCommand, day_of, has_flag, value_of};
+use crate::days::day_of;
+use crate::reading::{NoCommand, has_flag, value_of};
 use choice_words::{Choice, TypedChoice, VolumeNumber};
 use clap::ArgMatches;
 use jiff::civil::Date;
@@ -13,7 +20,9 @@ pub(super) fn day_asked(
     alloc: Global,
     asked: &ArgMatches<'_>,
     name: &str,
-) -> Result<Option<Date>, NoCommand> {
+) -> Result<Option<Date>, NoCommand>
+    ensures { IfOk result (IsDay (value_in (found_of asked.now) name.now)) }
+{
     let Some(text) = value_of(asked, name) else {
         return Ok(None);
     };
@@ -29,7 +38,9 @@ pub(super) fn day_asked(
 }
 
 /// Whether a first day is after a last one.
-fn is_backwards(first: Option<Date>, last: Option<Date>) -> bool {
+fn is_backwards(first: Option<Date>, last: Option<Date>) -> bool
+    ensures { result ≡ are_backwards first last }
+{
     match (first, last) {
         (Some(first), Some(last)) => last < first,
         _ => false,
@@ -40,7 +51,9 @@ fn is_backwards(first: Option<Date>, last: Option<Date>) -> bool {
 fn days_asked(
     alloc: Global,
     asked: &ArgMatches<'_>,
-) -> Result<(Option<Date>, Option<Date>), NoCommand> {
+) -> Result<(Option<Date>, Option<Date>), NoCommand>
+    ensures { IfOk result (λ days. AreDays (found_of asked.now) days.0 days.1) }
+{
     let since = day_asked(alloc, asked, names::SINCE)?;
     let until = day_asked(alloc, asked, names::UNTIL)?;
     if is_backwards(since, until) {
@@ -51,13 +64,19 @@ fn days_asked(
 }
 
 /// The text that is looked for, where it is given: without the white space at its ends, which no one sees who types it.
-fn text_asked<'a>(asked: &ArgMatches<'a>, name: &str) -> Option<&'a str> {
+fn text_asked<'a>(asked: &ArgMatches<'a>, name: &str) -> Option<&'a str>
+    ensures { text_of result ≡ text_in (found_of asked.now) name.now }
+{
     let text = value_of(asked, name)?;
     Some(text.trim())
 }
 
 /// The conditions that are given.
-fn conditions_of<'a>(alloc: Global, asked: &ArgMatches<'a>) -> Result<Choice<'a>, NoCommand> {
+fn conditions_of<'a>(alloc: Global, asked: &ArgMatches<'a>) -> Result<Choice<'a>, NoCommand>
+    ensures conditions { IfOk result (AreConditions (found_of asked.now)) }
+    ensures numbers { IfOk result (λ c. c.numbers.items ≡ []) }
+    ensures from { IfOk result (λ c. c.from ≡ 1) }
+{
     let (since, until) = days_asked(alloc, asked)?;
     let due = day_asked(alloc, asked, names::DUE)?;
     Ok(Choice {
@@ -81,7 +100,9 @@ fn conditions_of<'a>(alloc: Global, asked: &ArgMatches<'a>) -> Result<Choice<'a>
 pub(super) fn conditions_asked<'a>(
     alloc: Global,
     asked: &ArgMatches<'a>,
-) -> Result<TypedChoice<'a>, NoCommand> {
+) -> Result<TypedChoice<'a>, NoCommand>
+    ensures { IfOk result (AreConditioned (found_of asked.now)) }
+{
     Ok(TypedChoice {
         alone: conditions_of(alloc, asked)?,
         of_volumes: Vec::new(alloc),
@@ -93,7 +114,9 @@ pub(super) fn conditions_asked<'a>(
 pub(super) fn typed_of<'a>(
     alloc: Global,
     asked: &ArgMatches<'a>,
-) -> Result<TypedChoice<'a>, NoCommand> {
+) -> Result<TypedChoice<'a>, NoCommand>
+    ensures { IfOk result (AreMeant (found_of asked.now)) }
+{
     let conditions = conditions_of(alloc, asked)?;
     let Numbers { alone, of_volumes } = numbers_asked(alloc, asked)?;
     Ok(TypedChoice {
@@ -110,7 +133,9 @@ pub(super) fn typed_of<'a>(
 pub(super) fn choice_asked<'a>(
     alloc: Global,
     asked: &ArgMatches<'a>,
-) -> Result<TypedChoice<'a>, NoCommand> {
+) -> Result<TypedChoice<'a>, NoCommand>
+    ensures { IfOk result (AreChosen (found_of asked.now)) }
+{
     let mut choice = typed_of(alloc, asked)?;
     let Some(first) = first_asked(alloc, asked)? else {
         return Ok(choice);

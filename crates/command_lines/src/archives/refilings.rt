@@ -1,5 +1,9 @@
 //! What a command line asks of a refiling.
 
+ghost use Rattle.std.specs.Prelude.{IfOk};
+ghost use Rattle.clap.specs.Matches.{found_of};
+ghost use Rattle.command_lines.specs.Changes.{IsRefile};
+
 use super::holds::held_asked;
 use super::{ChosenTask, Command, names};
 use crate::reading::{NoCommand, has_flag, required};
@@ -23,7 +27,9 @@ const NONE_TO_REFILE: &str =
 pub(super) fn refile_asked<'a>(
     alloc: Global,
     asked: &ArgMatches<'a>,
-) -> Result<Command<'a>, NoCommand> {
+) -> Result<Command<'a>, NoCommand>
+    ensures { IfOk result (IsRefile (found_of asked.now)) }
+{
     let to = required(asked, names::TO)?;
     if required(asked, names::REASON)?.is_empty() {
         return Err(NoCommand::refused(alloc, "refile needs a reason; give it by --reason TEXT"));

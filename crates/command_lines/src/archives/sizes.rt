@@ -1,6 +1,9 @@
 //! What a command line asks of the size of volumes.
 
-ghost use Rattle.std.specs.Prelude.{◌≡◌, ◌*◌};
+ghost use Rattle.std.specs.Prelude.{◌≡◌, ◌*◌, codes, IfOk};
+ghost use Rattle.clap.specs.Matches.{found_of};
+ghost use Rattle.command_lines.specs.Asked.{value_in};
+ghost use Rattle.command_lines.specs.Stores.{IsSize};
 ghost use Rattle.command_lines.specs.Sizes.{digits_in, size_typed, size_within, unit_in};
 
 use super::names;
@@ -51,7 +54,9 @@ fn read_size(word: &[u8]) -> Option<u64>
 }
 
 /// The size of the volumes of a new archive, where one of volumes is asked for.
-pub(super) fn size_asked(alloc: Global, asked: &ArgMatches<'_>) -> Result<Option<u64>, NoCommand> {
+pub(super) fn size_asked(alloc: Global, asked: &ArgMatches<'_>) -> Result<Option<u64>, NoCommand>
+    ensures { IfOk result (IsSize (value_in (found_of asked.now) (codes "roll"))) }
+{
     let Some(word) = value_of(asked, names::ROLL) else {
         return Ok(None);
     };
