@@ -29,12 +29,13 @@ use Rattle.cli_history.specs.declared.seals.Seals.{Seals}
 use Rattle.cli_changes.specs.Approvals.{IsAsTyped}
 use Rattle.cli_tasks.specs.Changes.{Changes, Disposes, Makes}
 use Rattle.cli_tasks.specs.Commands.{AreAsked, ChangesAsTold, ChangesBy, ChangesChosenBy, DisposesAsTyped, DisposesBy, DoesAsTyped, DoesWith, IsTold}
-use Rattle.cli_tasks.specs.Commands.{ReplacesPlan}
+use Rattle.cli_tasks.specs.Commands.{ReadsBy, ReadsChosen, ReplacesPlan}
 use Rattle.cli_tasks.specs.Purposes.{for_disposal, purpose_of}
 use Rattle.cli_tasks.specs.Works.{IsDone, IsLent}
 use Rattle.cli_tasks.specs.declared.changes.ChosenChange.{ChosenChange}
 use Rattle.cli_tasks.specs.declared.changes.Changing.{Changing}
 use Rattle.cli_tasks.specs.declared.changes.Changing.TheVariants.{ReplacePlan, Chosen}
+use Rattle.cli_tasks.specs.declared.subcommands.Reading.{Reading}
 
 -- where nothing is said of what ends well
 pub nothing_said : {X F : Type 0} (result : Result X F) → OnOk result (Unit {0})
@@ -96,6 +97,19 @@ done_weaker WasThere Made Other to d = record {
   was_there = d.was_there;
   made = to d.before d.after d.made;
 }
+
+-- what was read of the records of a choice, by what is asked of their messages
+pub read_as : {S : Type 0} (g : Ghosts S) (WasThere : Store S → Type 0) (way : Reading) (choice : Choice) (questions : Questions)
+    (result : Result (Unit {0}) Failure) → AreAsked choice questions
+    → IfOk result (λ x. IsDone WasThere (λ before after. ReadsBy g before after way choice questions))
+    → OnOk result (IsDone WasThere (λ before after. ReadsChosen g before after way choice))
+read_as g WasThere way choice questions (Ok x) asked d = record {
+  before = d.before;
+  after = d.after;
+  was_there = d.was_there;
+  made = (questions, asked, d.made);
+}
+read_as g WasThere way choice questions (Err failure) asked d = tt
 
 module _ {S : Type 0} (g : Ghosts S) (WasThere : Store S → Type 0) (told : Attribution) where
   -- what somebody made of a ledger, who is told

@@ -1,7 +1,7 @@
 //! What each subcommand does.
 
 ghost use Rattle.std.specs.Prelude.{OnOk};
-ghost use Rattle.cli_tasks.specs.Commands.{ChangesBy, ChangesChosenBy, DisposesAsTyped, Does, DoesAsTyped, DoesWith, ReplacesPlan};
+ghost use Rattle.cli_tasks.specs.Commands.{ChangesBy, ChangesChosenBy, DisposesAsTyped, Does, DoesAsTyped, DoesWith, ReadsBy, ReadsChosen, ReplacesPlan};
 ghost use Rattle.cli_tasks.specs.Volumes.{DoesThere};
 ghost use Rattle.cli_tasks.specs.Works.{IsDone, IsLent};
 
@@ -27,7 +27,7 @@ use cli_changes::{
     read_plan, refuse_no_mail, report_delivery, undecoded_in, with_approved, write_plan,
 };
 use cli_choice::{Change, Questions};
-use cli_console::{Failure, day_or_today};
+use cli_console::{Failure, StandardOutput, day_or_today};
 use cli_history::{Author, write_cases, write_titles};
 use cli_readings::{
     Captured, export_to, judge_choice, message_of_record, read_captured, write_list, write_message,
@@ -92,10 +92,17 @@ struct OnRecords<'a, 't> {
 
 impl OnRecords<'_, '_> {
     /// Does it.
-    fn perform<S: Alter>(&self, rt: &HostRuntime, archive: &mut Store<S>) -> Result<(), Failure> {
+    fn perform<S: Alter>(&self, rt: &HostRuntime, archive: &mut Store<S>) -> Result<(), Failure>
+        ensures { OnOk result (ReadsBy S.Store archive.old archive.new.conn self.now.reading.now
+            self.now.choice self.now.questions) }
+    {
         let (choice, questions) = (&self.choice, &self.questions);
         match self.reading {
-            Reading::List(listing) => write_list(rt, archive, choice, questions, *listing),
+            Reading::List(listing) => {
+                let output = StandardOutput::new(rt);
+                let _written = write_list(rt, archive, choice, questions, *listing, output)?;
+                Ok(())
+            }
             Reading::Export(target) => {
                 export_to(rt, archive, self.store, choice, questions, *target)
             }
@@ -109,6 +116,9 @@ impl OnRecords<'_, '_> {
 
 impl Work for OnRecords<'_, '_> {
     type Answer = ();
+
+    ghost does = { λ S g it before done after. OnOk done (ReadsBy g before after it.reading.now
+        it.choice it.questions) };
 
     fn work<S: Alter>(
         self,
@@ -311,7 +321,8 @@ fn read_records<'a, A: Archives>(
     choice: Choice<'a>,
     reading: &Reading<'a>,
 ) -> Result<(), Failure>
-    ensures { OnOk result (IsLent (A.is_at archives.now store.now)) }
+    ensures { OnOk result (IsDone (A.is_at archives.now store.now) (λ before after.
+        ReadsChosen A.Kept.Store before after reading.now choice.entry)) }
 {
     let questions = judge_choice(rt, &choice)?;
     let work = OnRecords {
