@@ -1,12 +1,12 @@
--- What is listed, exported and reported of the records of a choice.
-use Rattle.std.specs.Prelude.{◌≡◌, ◌≤◌, ℕ, List, length}
+-- What is listed, exported and reported of the records of a choice, shown of a record, and listed of what was captured twice.
+use Rattle.std.specs.Prelude.{◌≡◌, ℕ, List, Ok, Some}
 use Rattle.sqlite.specs.State.{HasCleanDisk}
 use Rattle.sqlite.specs.Store.{Ghosts}
 use Rattle.sqlite.specs.Held.{Held, state}
 use Rattle.jiff_core.specs.declared.civil.date.Date.{Date}
 use Rattle.choice_words.specs.declared.choice.Choice.{Choice}
 use Rattle.command_lines.specs.declared.archives.Listing.{Listing}
-use Rattle.record_archive.specs.Archive.{Archive}
+use Rattle.record_archive.specs.Archive.{Archive, message}
 use Rattle.record_choice.specs.Reads.{OnlyReads}
 use Rattle.record_noted.specs.Histories.{rows_of}
 use Rattle.record_store.specs.Stores.{StandsFor}
@@ -19,6 +19,7 @@ use Rattle.cli_history.specs.declared.seals.Seals.{Seals}
 use Rattle.cli_readings.specs.Exports.{ExportsFound}
 use Rattle.cli_readings.specs.Lists.{WritesList}
 use Rattle.cli_readings.specs.Reports.{IsReportBy, ReportsMore}
+use Rattle.cli_readings.specs.Twice.{WritesTwice}
 use Rattle.cli_readings.specs.VolumeExports.{unseen}
 use Rattle.cli_readings.specs.VolumeReads.{ReadsFound, TakesFound}
 use Rattle.cli_readings.specs.declared.destination.Folder.{Folder}
@@ -72,3 +73,25 @@ pub record ReportsOf {S : Type 0} (g : Ghosts S) (day : Date) (choice : Choice) 
   pub by_day : IsReportBy day begun
   pub whole : Reporting
   pub reports : ReadsFound g (λ old a es new. ReportsMore old a es new) choice questions before read begun whole
+
+-- ---- messages
+
+-- THE OCTETS ARE THE MESSAGE of the record with a number, in a store of which this is left
+abbrev pub ShowsOf : {S : Type 0} → Ghosts S → (number : ℕ) → (octets : List ℕ) → (before : Store S) → (after : Held S) → Type 0
+ShowsOf g number octets before after =
+    HasCleanDisk (state g after) → (a : Archive) → StandsFor g before a → message a number ≡ Ok (Some octets)
+
+-- ---- what was captured twice
+
+-- THE LIST OF WHAT WAS CAPTURED TWICE is written, by the seals that the history tells, and nothing else
+pub record IsTwiceListed {S K : Type 0} (g : Ghosts S) (written : K → List ℕ → Type 0) (listing : Listing) (before : Store S) (old new : K)
+    (a : Archive) : Type 0 where
+  pub seals : Seals
+  pub told : (ls : List (List ℕ)) → KeepsLinesIn g before ls → AreTold seals (rows_of ls)
+  pub writes : WritesTwice written listing seals old a new
+
+-- the same of a store, of which this is left
+abbrev pub TwiceOf : {S K : Type 0} → Ghosts S → (written : K → List ℕ → Type 0) → Listing → (before : Store S) → (after : Held S)
+    → (old new : K) → Type 0
+TwiceOf g written listing before after old new =
+    HasCleanDisk (state g after) → (a : Archive) → StandsFor g before a → IsTwiceListed g written listing before old new a

@@ -1,7 +1,8 @@
 //! What each subcommand does.
 
-ghost use Rattle.std.specs.Prelude.{OnOk};
-ghost use Rattle.cli_tasks.specs.Commands.{ChangesBy, ChangesChosenBy, DisposesAsTyped, Does, DoesAsTyped, DoesWith, ReadsBy, ReadsChosen, ReplacesPlan};
+ghost use Rattle.std.specs.Prelude.{IfOk, OnOk};
+ghost use Rattle.cli_readings.specs.Chosen.{ShowsOf};
+ghost use Rattle.cli_tasks.specs.Commands.{ChangesBy, ChangesChosenBy, DisposesAsTyped, Does, DoesAsTyped, DoesWith, ReadsBy, ReadsChosen, ReplacesPlan, Shows, Surveys};
 ghost use Rattle.cli_tasks.specs.Volumes.{DoesThere};
 ghost use Rattle.cli_tasks.specs.Works.{IsDone, IsLent};
 
@@ -53,8 +54,28 @@ pub(crate) enum Survey {
     Titles { is_json: bool },
 }
 
+impl Survey {
+    /// Reads it.
+    fn perform<S: Alter>(self, rt: &HostRuntime, archive: &mut Store<S>) -> Result<(), Failure>
+        ensures { OnOk result (Surveys S.Store archive.old archive.new.conn self.entry) }
+    {
+        match self {
+            Survey::Plan => write_plan(rt, archive.plan()),
+            Survey::Holds { is_json } => write_cases(rt, archive, is_json),
+            Survey::Twice(listing) => {
+                let output = StandardOutput::new(rt);
+                let _written = write_twice(rt, archive, listing, output)?;
+                Ok(())
+            }
+            Survey::Titles { is_json } => write_titles(rt, archive, is_json),
+        }
+    }
+}
+
 impl Work for Survey {
     type Answer = ();
+
+    ghost does = { λ S g it before done after. OnOk done (Surveys g before after it) };
 
     fn work<S: Alter>(
         self,
@@ -62,12 +83,7 @@ impl Work for Survey {
         archive: Store<S>,
     ) -> (Connection<S>, Result<(), Failure>) {
         let mut archive = archive;
-        let done = match self {
-            Survey::Plan => write_plan(rt, archive.plan()),
-            Survey::Holds { is_json } => write_cases(rt, &mut archive, is_json),
-            Survey::Twice(listing) => write_twice(rt, &mut archive, listing),
-            Survey::Titles { is_json } => write_titles(rt, &mut archive, is_json),
-        };
+        let done = self.perform(rt, &mut archive);
         (archive.into_connection(), done)
     }
 }
@@ -137,6 +153,9 @@ struct ReadMessage<'a>(TypedNumber<'a>);
 
 impl Work for ReadMessage<'_> {
     type Answer = Vec<u8>;
+
+    ghost does = { λ S g it before done after. IfOk done (λ octets. ShowsOf g it.0.number
+        octets.items before after) };
 
     fn work<S: Alter>(
         self,
@@ -294,7 +313,8 @@ pub(crate) fn show<A: Archives>(
     record: TypedNumber<'_>,
     fields: bool,
 ) -> Result<(), Failure>
-    ensures { OnOk result (IsLent (A.is_at archives.now store.now)) }
+    ensures { OnOk result (Shows A.Kept.Store (A.is_at archives.now store.now)
+        record.entry.number) }
 {
     let message = lend(rt, archives, store, ReadMessage(record))?;
     write_message(rt, message.as_slice(), fields)
