@@ -2,7 +2,7 @@
 
 ghost use Rattle.std.specs.Prelude.{IfOk, OnOk};
 ghost use Rattle.cli_readings.specs.Chosen.{ShowsOf};
-ghost use Rattle.cli_tasks.specs.Commands.{ChangesBy, ChangesChosenBy, DisposesAsTyped, Does, DoesAsTyped, DoesWith, ReadsBy, ReadsChosen, ReplacesPlan, Shows, Surveys};
+ghost use Rattle.cli_tasks.specs.Commands.{ChangesBy, ChangesChosenBy, DisposesAsTyped, Does, DoesAsTyped, DoesWith, ReadsBy, ReadsChosen, ReplacesPlan, Shows, ShowsAsTyped, Surveys};
 ghost use Rattle.cli_tasks.specs.Volumes.{DoesThere};
 ghost use Rattle.cli_tasks.specs.Works.{IsDone, IsLent};
 
@@ -57,7 +57,7 @@ pub(crate) enum Survey {
 impl Survey {
     /// Reads it.
     fn perform<S: Alter>(self, rt: &HostRuntime, archive: &mut Store<S>) -> Result<(), Failure>
-        ensures { OnOk result (Surveys S.Store archive.old archive.new.conn self.entry) }
+        ensures { OnOk result (Surveys S.Store archive.old archive.new.conn self) }
     {
         match self {
             Survey::Plan => write_plan(rt, archive.plan()),
@@ -320,6 +320,21 @@ pub(crate) fn show<A: Archives>(
     write_message(rt, message.as_slice(), fields)
 }
 
+/// The same of a number as it is typed, in a store that is one file.
+fn show_typed<A: Archives>(
+    rt: &HostRuntime,
+    archives: &A,
+    store: &str,
+    typed: TypedNumber<'_>,
+    fields: bool,
+) -> Result<(), Failure>
+    ensures { OnOk result (ShowsAsTyped A.Kept.Store (A.is_at archives.now store.now)
+        typed.entry) }
+{
+    let record = number_in_file(rt, typed)?;
+    show(rt, archives, store, record, fields)
+}
+
 /// Says why a record is in its class, once the archive is closed.
 pub(crate) fn why<A: Archives>(
     rt: &HostRuntime,
@@ -525,7 +540,7 @@ fn history<A: Archives>(
 }
 
 /// Does what a command line asks for with the archive of the store at its path.
-#[tactic(auto, using(crate::proofs::DoneLemmas::nothing_said, crate::proofs::DoneLemmas::lent_as))]
+#[tactic(auto, using(crate::proofs::DoneLemmas::nothing_said, crate::proofs::DoneLemmas::lent_as, crate::proofs::DoneLemmas::done_as))]
 fn execute_at<'a, A: Archives>(
     rt: &'a HostRuntime,
     archives: &A,
@@ -552,9 +567,7 @@ fn execute_at<'a, A: Archives>(
             telling,
         } => intake(rt, archives, store, maildir, &filing, telling, told),
         Command::Import(asked) => import(rt, archives, store, &asked, told),
-        Command::Show { record, fields } => {
-            show(rt, archives, store, number_in_file(rt, record)?, fields)
-        }
+        Command::Show { record, fields } => show_typed(rt, archives, store, record, fields),
         Command::Copy { new, is_damaged } => copy_to(
             rt,
             archives,

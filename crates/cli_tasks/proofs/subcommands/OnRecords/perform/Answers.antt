@@ -5,12 +5,6 @@ use Rattle.cli_tasks.specs.declared.subcommands.Reading.{Reading}
 use Rattle.cli_tasks.proofs.ReadingLaws.{day_as_typed}
 use Rattle.cli_tasks.proofs.subcommands.OnRecords.perform.Goals as goal
 
-pub returns-in-List : goal.returns-in-List
-returns-in-List g c =
-    let it = c.args.self.now in
-    subst (λ (way : Reading). ReadsBy g.S.Store c.args.archive.now c.write_list.new.archive.conn way it.choice it.questions) (sym c.in-List.is)
-    (c.new-output.result, c.in_ok-_written._written, c.in_ok-_written.ensures.listed)
-
 pub returns-in-Export : goal.returns-in-Export
 returns-in-Export g c =
     let it = c.args.self.now in
@@ -18,8 +12,8 @@ returns-in-Export g c =
     subst (λ (way : Reading). ReadsBy g.S.Store c.args.archive.now c.export_to.new.archive.conn way it.choice it.questions) (sym c.in-Export.is)
     exported) c.export_to.ensures.exported
 
-pub returns-in-Report : goal.returns-in-Report
-returns-in-Report g c =
+pub returns-in_ok-day-in-Report : goal.returns-in_ok-day-in-Report
+returns-in_ok-day-in-Report g c =
     let it = c.args.self.now in
     on_ok_weaker c.write_report.result (λ reported.
     subst (λ (way : Reading). ReadsBy g.S.Store c.args.archive.now c.write_report.new.archive.conn way it.choice it.questions) (sym c.in-Report.is)
