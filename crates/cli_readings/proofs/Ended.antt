@@ -1,5 +1,5 @@
 -- Searches that have come to their ends.
-use Rattle.std.proofs.Common.{◌≡◌, ℕ, List, [], ◌∷◌, ◌++◌, refl, sym, ap, ap₂, ◌∙◌}
+use Rattle.std.proofs.Common.{◌≡◌, ◌≤◌, ℕ, List, [], ◌∷◌, ◌++◌, length, arith, refl, sym, ap, ap₂, ◌∙◌}
 use Rattle.choice_words.specs.declared.choice.Choice as words
 use Rattle.record_archive.specs.Archive.{Archive}
 use Rattle.record_choice.specs.Entries.{RecordEntry}
@@ -31,3 +31,9 @@ none_ahead begun ended a none ahead typed noted =
       typed = typed;
       noted = nil_front ended.found.items (singles_among ended.typed.now.numbers.items (found_ahead ended a)) (noted ∙ nothing) ∙ sym nothing;
     }
+
+-- where a first page has a record, one is found
+pub some_found : (found page ahead : List RecordEntry) → 1 ≤ length page → page ++ ahead ≡ found → 1 ≤ length found
+some_found found [] ahead some both = absurd (omega (arith, some))
+some_found [] (p ∷ page) ahead some both = absurd (cc both)
+some_found (e ∷ found) (p ∷ page) ahead some both = omega arith

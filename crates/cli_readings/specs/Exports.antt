@@ -1,5 +1,5 @@
 -- What an export hands over of the records that are found.
-use Rattle.std.specs.Prelude.{◌≡◌, ℕ, ◌+◌, ◌==◌, ◌&&◌, Bool, true, false, not, if◌then◌else◌, min}
+use Rattle.std.specs.Prelude.{◌≡◌, ◌≤◌, ℕ, ◌+◌, ◌==◌, ◌&&◌, Bool, true, false, not, if◌then◌else◌, min}
 use Rattle.std.specs.Prelude.{List, [], ◌∷◌, ◌++◌, length, map, filter, codes, decimal}
 use Rattle.std.specs.Prelude.{Option, Some, None, option_map, Result, Ok, Err}
 use Rattle.std.specs.List.{AllZip}
@@ -169,7 +169,7 @@ pub record WritesExport {D : Type 0} (made : D → List Part → Type 0) (seals 
   pub writes : Writes made before after.destination parts
   pub count : after.count ≡ count_of parts
 
--- the same of the records that are found
+-- the same of the records that are found, of which there is one at least
 abbrev pub ExportsFound : {D : Type 0} (made : D → List Part → Type 0) → Seals → D → Archive → List Entry → Outgoing D → Type 0
 ExportsFound made seals before a found after =
-    (es : List RecordEntry) × (map entry_view es ≡ found) × WritesExport made seals before a es after
+    (1 ≤ length found) × (es : List RecordEntry) × (map entry_view es ≡ found) × WritesExport made seals before a es after

@@ -1,5 +1,6 @@
 pub mod Altered
 pub mod Checks
+pub mod Chosen
 pub mod Ends
 pub mod Exporting
 pub mod Exports

@@ -1,6 +1,6 @@
 //! Where an export goes.
 
-ghost use Rattle.std.specs.Prelude.{◌∷◌, ◌++◌, [], List, OnOk, option_map, ⊤};
+ghost use Rattle.std.specs.Prelude.{◌≡◌, ◌∷◌, ◌++◌, [], List, OnOk, option_map, ⊤};
 ghost use Rattle.cli_texts.specs.Rows.{last_fields, record_fields};
 ghost use Rattle.cli_readings.specs.Parts.{Part};
 ghost use Rattle.cli_readings.specs.Parts as part;
@@ -116,7 +116,9 @@ impl Drop for Folder<'_> {
 
 impl<'a> Folder<'a> {
     /// A folder without files of an export, for the records of a store, or of an archive whose last volume has this number.
-    pub(crate) fn new(rt: &'a HostRuntime, path: &'a str, last: Option<u32>) -> Folder<'a> {
+    pub(crate) fn new(rt: &'a HostRuntime, path: &'a str, last: Option<u32>) -> Folder<'a>
+        ensures { result.path.now ≡ path.now }
+    {
         let alloc = rt.alloc();
         Folder {
             rt,

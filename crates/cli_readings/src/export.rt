@@ -1,11 +1,12 @@
 //! `export`: records as files, with lists of them.
 
-ghost use Rattle.std.specs.Prelude.{◌≡◌, [], IfOk, MatchOption};
+ghost use Rattle.std.specs.Prelude.{◌≡◌, [], IfOk, MatchOption, OnOk};
 ghost use Rattle.record_choice.specs.Reads.{OnlyReads};
 ghost use Rattle.cli_console.specs.Failures.{IsToldAs};
 ghost use Rattle.cli_console.specs.Finds.{found_in};
 ghost use Rattle.cli_console.specs.declared.failure.Status.TheVariants.{BadData};
 ghost use Rattle.cli_history.specs.Walks.{Glances};
+ghost use Rattle.cli_readings.specs.Chosen.{ExportsOf, OnlyReadsStore};
 ghost use Rattle.cli_readings.specs.Ends.{IsEnded};
 ghost use Rattle.cli_readings.specs.Exports.{ExportsFound, exported_text};
 ghost use Rattle.cli_choice.specs.Reads.{IsReadOf};
@@ -225,7 +226,11 @@ pub fn export_to<S: Alter>(
     choice: &Choice<'_>,
     questions: &Questions,
     target: Target<'_>,
-) -> Result<(), Failure> {
+) -> Result<(), Failure>
+    ensures reads { OnOk result (OnlyReadsStore S.Store archive.old archive.new) }
+    ensures exported { OnOk result (ExportsOf S.Store target.entry.folder.now choice.now
+        questions.now archive.old archive.new.conn) }
+{
     let seals = Seals::of(rt, archive)?;
     let folder = Folder::new(rt, target.folder, None);
     let (search, out) = export_records(rt, archive, choice, questions, seals, folder)?;

@@ -6,6 +6,7 @@ ghost use Rattle.record_choice.specs.Reads.{OnlyReads};
 ghost use Rattle.cli_console.specs.Headers.{AreTextsOf};
 ghost use Rattle.cli_console.specs.Counts.{one_more};
 ghost use Rattle.cli_console.specs.Finds.{IsAtEnd, IsBounded, TakesThese, found_ahead, found_in};
+ghost use Rattle.cli_readings.specs.Chosen.{ListsChosen};
 ghost use Rattle.cli_readings.specs.Ends.{IsEnded};
 ghost use Rattle.cli_readings.specs.Lists.{HasText, IsHeaderOf, IsRowOf, IsTextOf, Lists, PushesRow, WritesList, end_of, head_of, more_listed, none_listed};
 ghost use Rattle.cli_console.specs.Sequences.{between};
@@ -13,7 +14,7 @@ ghost use Rattle.cli_console.specs.Sinks.{Writes};
 ghost use Rattle.cli_choice.specs.Reads.{IsReadOf};
 
 use cli_choice::Questions;
-use cli_console::{Failure, Reader, Search, Sink, StandardOutput, message_of, text_between};
+use cli_console::{Failure, Reader, Search, Sink, message_of, text_between};
 use cli_texts::{
     Headers, LIST_HEADER, LIST_HEADER_WITH_TEXTS, ListedHeaders, Row, headers_of, json_object,
     listed_line, listed_row, number_text,
@@ -351,16 +352,22 @@ fn list_to<'s, 'a, R: Repository<Fault = StoreFault>, K: Sink + Drop>(
     Ok((search, sink))
 }
 
-/// Writes the records that meet a choice, and whose messages have what is asked of them, with what a format has before and
-/// after them. `BadData` where the class is none of the plan, and where a number that is typed by itself is not found.
-pub fn write_list<R: Repository<Fault = StoreFault>>(
+/// Writes to a sink the records that meet a choice, and whose messages have what is asked of them, with what a format has before
+/// and after them. Answers the sink. `BadData` where the class is none of the plan, and where a number that is typed by itself is
+/// not found.
+pub fn write_list<R: Repository<Fault = StoreFault>, K: Sink + Drop>(
     rt: &HostRuntime,
     archive: &mut R,
     choice: &Choice<'_>,
     questions: &Questions,
     listing: Listing,
-) -> Result<(), Failure> {
-    let output = StandardOutput::new(rt);
-    let (search, _) = list_to(rt, archive, choice, questions, listing, output)?;
-    search.end(rt, archive)
+    sink: K,
+) -> Result<K, Failure>
+    ensures reads { OnlyReads R.clean R.stands archive.old archive.new }
+    ensures listed { IfOk result (λ after. IsReadOf R.clean R.stands archive.old archive.new
+        (λ a. ListsChosen K.written listing choice.now questions.now a sink after)) }
+{
+    let (search, written) = list_to(rt, archive, choice, questions, listing, sink)?;
+    search.end(rt, archive)?;
+    Ok(written)
 }

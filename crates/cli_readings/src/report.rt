@@ -1,10 +1,11 @@
 //! `report`: one page of HTML on what is kept, what is due and what is held.
 
-ghost use Rattle.std.specs.Prelude.{◌≡◌, IfOk, IfSome, is_none, not};
+ghost use Rattle.std.specs.Prelude.{◌≡◌, IfOk, IfSome, OnOk, is_none, not};
 ghost use Rattle.record_choice.specs.Reads.{OnlyReads};
 ghost use Rattle.cli_console.specs.Headers.{AreTextsOf};
 ghost use Rattle.cli_readings.specs.Checks.{is_live_and_due};
 ghost use Rattle.cli_choice.specs.Reads.{IsReadOf};
+ghost use Rattle.cli_readings.specs.Chosen.{ReportsOf};
 ghost use Rattle.cli_readings.specs.Reports.{IsRecordOf, IsReportBy, ReportsMore, more_reports, none_reports};
 
 use crate::conditions::conditions_of;
@@ -161,7 +162,9 @@ pub fn write_report<S: Alter>(
     day: Date,
     choice: &Choice<'_>,
     questions: &Questions,
-) -> Result<(), Failure> {
+) -> Result<(), Failure>
+    ensures { OnOk result (ReportsOf S.Store day choice.now questions.now archive.old) }
+{
     let mut search = Search::new(rt, archive, choice, questions)?;
     let mut reporting = Reporting::new(rt, archive.plan(), day)?;
     search.read_found(rt, archive, &mut reporting)?;

@@ -6,6 +6,7 @@ ghost use Rattle.record_choice.specs.Reads.{OnlyReads};
 ghost use Rattle.record_history.specs.Replay.{seal};
 ghost use Rattle.cli_history.specs.Seals.{fidelity, known};
 ghost use Rattle.cli_choice.specs.Reads.{IsReadOf};
+ghost use Rattle.cli_readings.specs.Chosen.{OnlyReadsStore, ShowsOf};
 ghost use Rattle.cli_readings.specs.Shows.{IsEntryOf, is_unaltered};
 
 use cli_console::{Failure, Status, write_data, write_text};
@@ -115,9 +116,14 @@ pub(crate) fn message_of_entry<S: Alter>(
     archive: &mut Store<S>,
     typed: TypedNumber<'_>,
     entry: &RecordEntry,
-) -> Result<Vec<u8>, Failure> {
+) -> Result<Vec<u8>, Failure>
+    ensures reads { OnOk result (OnlyReadsStore S.Store archive.old archive.new) }
+    ensures told { IfOk result (λ octets. ShowsOf S.Store entry.now.number octets.items archive.old
+        archive.new.conn) }
+{
     let seals = Seals::of_message(rt, archive, entry.message)?;
-    octets_of(rt.alloc(), archive, typed, entry, &seals)
+    let octets = octets_of(rt.alloc(), archive, typed, entry, &seals)?;
+    Ok(octets)
 }
 
 /// The message of a record. `BadData` where there is no record of its number, where it is destroyed, and where its message is
@@ -126,9 +132,14 @@ pub fn message_of_record<S: Alter>(
     rt: &HostRuntime,
     archive: &mut Store<S>,
     typed: TypedNumber<'_>,
-) -> Result<Vec<u8>, Failure> {
+) -> Result<Vec<u8>, Failure>
+    ensures reads { OnOk result (OnlyReadsStore S.Store archive.old archive.new) }
+    ensures told { IfOk result (λ octets. ShowsOf S.Store typed.entry.number octets.items
+        archive.old archive.new.conn) }
+{
     let entry = entry_of(rt.alloc(), archive, typed)?;
-    message_of_entry(rt, archive, typed, &entry)
+    let message = message_of_entry(rt, archive, typed, &entry)?;
+    Ok(message)
 }
 
 /// Writes a message to standard output, octet by octet, or the fields of its header.

@@ -3,6 +3,7 @@
 ghost use Rattle.std.specs.Prelude.{◌≡◌, ◌∷◌, [], false, None, true, IfOk, OnOk, string_bytes};
 ghost use Rattle.record_choice.specs.Reads.{OnlyReads};
 ghost use Rattle.cli_history.specs.Seals.{known};
+ghost use Rattle.cli_readings.specs.Chosen.{OnlyReadsStore, TwiceOf};
 ghost use Rattle.cli_readings.specs.Groups.{key_of, records_of};
 ghost use Rattle.cli_readings.specs.Lists.{PushesRow};
 ghost use Rattle.cli_choice.specs.Reads.{IsReadOf};
@@ -27,7 +28,7 @@ ghost use Rattle.cli_readings.specs.Twice.{
 
 use crate::groups::{Group, Groups, SealKey, Sealed};
 use crate::list::{ListText, headers_of_record};
-use cli_console::{Failure, Reader, Sink, StandardOutput, message_of, read_chosen, text_between};
+use cli_console::{Failure, Reader, Sink, message_of, read_chosen, text_between};
 use cli_history::Seals;
 use cli_texts::{Headers, LIST_HEADER, LIST_HEADER_WITH_TEXTS, ListedHeaders, sum_of};
 use command_lines::archives::{Format, Listing};
@@ -362,15 +363,20 @@ fn twice_to<R: Repository<Fault = StoreFault>, K: Sink + Drop>(
     Ok(sink)
 }
 
-/// Writes the live records whose messages were captured twice: those with the octets of another message, by their length and
-/// SHA-256, whatever their headers say. They stand in groups, each with the records of all messages that are the same, in the order
-/// of the first ones. A failure is that of the store.
-pub fn write_twice<S: Alter>(
+/// Writes to a sink the live records whose messages were captured twice: those with the octets of another message, by their length
+/// and SHA-256, whatever their headers say. They stand in groups, each with the records of all messages that are the same, in the
+/// order of the first ones. Answers the sink. A failure is that of the store, that of the sink, or no memory.
+pub fn write_twice<S: Alter, K: Sink + Drop>(
     rt: &HostRuntime,
     archive: &mut Store<S>,
     listing: Listing,
-) -> Result<(), Failure> {
+    sink: K,
+) -> Result<K, Failure>
+    ensures reads { OnOk result (OnlyReadsStore S.Store archive.old archive.new) }
+    ensures listed { IfOk result (TwiceOf S.Store K.written listing archive.old archive.new.conn
+        sink) }
+{
     let seals = Seals::of(rt, archive)?;
-    twice_to(rt, archive, listing, seals, StandardOutput::new(rt))?;
-    Ok(())
+    let written = twice_to(rt, archive, listing, seals, sink)?;
+    Ok(written)
 }

@@ -27,14 +27,16 @@ use Rattle.cli_history.specs.declared.author.Author.{Author}
 use Rattle.cli_history.specs.declared.opening.Purpose.{Purpose}
 use Rattle.cli_history.specs.declared.seals.Seals.{Seals}
 use Rattle.cli_changes.specs.Approvals.{IsAsTyped}
+use Rattle.cli_readings.specs.Chosen.{ShowsOf}
 use Rattle.cli_tasks.specs.Changes.{Changes, Disposes, Makes}
 use Rattle.cli_tasks.specs.Commands.{AreAsked, ChangesAsTold, ChangesBy, ChangesChosenBy, DisposesAsTyped, DisposesBy, DoesAsTyped, DoesWith, IsTold}
-use Rattle.cli_tasks.specs.Commands.{ReplacesPlan}
+use Rattle.cli_tasks.specs.Commands.{ReadsBy, ReadsChosen, ReplacesPlan, Shows}
 use Rattle.cli_tasks.specs.Purposes.{for_disposal, purpose_of}
 use Rattle.cli_tasks.specs.Works.{IsDone, IsLent}
 use Rattle.cli_tasks.specs.declared.changes.ChosenChange.{ChosenChange}
 use Rattle.cli_tasks.specs.declared.changes.Changing.{Changing}
 use Rattle.cli_tasks.specs.declared.changes.Changing.TheVariants.{ReplacePlan, Chosen}
+use Rattle.cli_tasks.specs.declared.subcommands.Reading.{Reading}
 
 -- where nothing is said of what ends well
 pub nothing_said : {X F : Type 0} (result : Result X F) → OnOk result (Unit {0})
@@ -96,6 +98,30 @@ done_weaker WasThere Made Other to d = record {
   was_there = d.was_there;
   made = to d.before d.after d.made;
 }
+
+-- what was read of the records of a choice, by what is asked of their messages
+pub read_as : {S : Type 0} (g : Ghosts S) (WasThere : Store S → Type 0) (way : Reading) (choice : Choice) (questions : Questions)
+    (result : Result (Unit {0}) Failure) → AreAsked choice questions
+    → IfOk result (λ x. IsDone WasThere (λ before after. ReadsBy g before after way choice questions))
+    → OnOk result (IsDone WasThere (λ before after. ReadsChosen g before after way choice))
+read_as g WasThere way choice questions (Ok x) asked d = record {
+  before = d.before;
+  after = d.after;
+  was_there = d.was_there;
+  made = (questions, asked, d.made);
+}
+read_as g WasThere way choice questions (Err failure) asked d = tt
+
+-- what was done, whatever is answered
+pub done_as : {S X F : Type 0} (WasThere : Store S → Type 0) (Made : Store S → Held S → Type 0) (result : Result X F)
+    → IfOk result (λ x. IsDone WasThere Made) → OnOk result (IsDone WasThere Made)
+done_as WasThere Made (Ok x) d = d
+done_as WasThere Made (Err failure) d = tt
+
+-- the message of a record was shown
+pub shown_as : {S : Type 0} (g : Ghosts S) (WasThere : Store S → Type 0) (number : ℕ) (octets : List ℕ)
+    → IsDone WasThere (λ before after. ShowsOf g number octets before after) → Shows g WasThere number
+shown_as g WasThere number octets d = record { before = d.before; after = d.after; was_there = d.was_there; made = (octets, d.made) }
 
 module _ {S : Type 0} (g : Ghosts S) (WasThere : Store S → Type 0) (told : Attribution) where
   -- what somebody made of a ledger, who is told

@@ -1,7 +1,8 @@
 //! What each subcommand does.
 
-ghost use Rattle.std.specs.Prelude.{OnOk};
-ghost use Rattle.cli_tasks.specs.Commands.{ChangesBy, ChangesChosenBy, DisposesAsTyped, Does, DoesAsTyped, DoesWith, ReplacesPlan};
+ghost use Rattle.std.specs.Prelude.{IfOk, OnOk};
+ghost use Rattle.cli_readings.specs.Chosen.{ShowsOf};
+ghost use Rattle.cli_tasks.specs.Commands.{ChangesBy, ChangesChosenBy, DisposesAsTyped, Does, DoesAsTyped, DoesWith, ReadsBy, ReadsChosen, ReplacesPlan, Shows, ShowsAsTyped, Surveys};
 ghost use Rattle.cli_tasks.specs.Volumes.{DoesThere};
 ghost use Rattle.cli_tasks.specs.Works.{IsDone, IsLent};
 
@@ -27,7 +28,7 @@ use cli_changes::{
     read_plan, refuse_no_mail, report_delivery, undecoded_in, with_approved, write_plan,
 };
 use cli_choice::{Change, Questions};
-use cli_console::{Failure, day_or_today};
+use cli_console::{Failure, StandardOutput, day_or_today};
 use cli_history::{Author, write_cases, write_titles};
 use cli_readings::{
     Captured, export_to, judge_choice, message_of_record, read_captured, write_list, write_message,
@@ -53,8 +54,28 @@ pub(crate) enum Survey {
     Titles { is_json: bool },
 }
 
+impl Survey {
+    /// Reads it.
+    fn perform<S: Alter>(self, rt: &HostRuntime, archive: &mut Store<S>) -> Result<(), Failure>
+        ensures { OnOk result (Surveys S.Store archive.old archive.new.conn self) }
+    {
+        match self {
+            Survey::Plan => write_plan(rt, archive.plan()),
+            Survey::Holds { is_json } => write_cases(rt, archive, is_json),
+            Survey::Twice(listing) => {
+                let output = StandardOutput::new(rt);
+                let _written = write_twice(rt, archive, listing, output)?;
+                Ok(())
+            }
+            Survey::Titles { is_json } => write_titles(rt, archive, is_json),
+        }
+    }
+}
+
 impl Work for Survey {
     type Answer = ();
+
+    ghost does = { λ S g it before done after. OnOk done (Surveys g before after it) };
 
     fn work<S: Alter>(
         self,
@@ -62,12 +83,7 @@ impl Work for Survey {
         archive: Store<S>,
     ) -> (Connection<S>, Result<(), Failure>) {
         let mut archive = archive;
-        let done = match self {
-            Survey::Plan => write_plan(rt, archive.plan()),
-            Survey::Holds { is_json } => write_cases(rt, &mut archive, is_json),
-            Survey::Twice(listing) => write_twice(rt, &mut archive, listing),
-            Survey::Titles { is_json } => write_titles(rt, &mut archive, is_json),
-        };
+        let done = self.perform(rt, &mut archive);
         (archive.into_connection(), done)
     }
 }
@@ -92,10 +108,17 @@ struct OnRecords<'a, 't> {
 
 impl OnRecords<'_, '_> {
     /// Does it.
-    fn perform<S: Alter>(&self, rt: &HostRuntime, archive: &mut Store<S>) -> Result<(), Failure> {
+    fn perform<S: Alter>(&self, rt: &HostRuntime, archive: &mut Store<S>) -> Result<(), Failure>
+        ensures { OnOk result (ReadsBy S.Store archive.old archive.new.conn self.now.reading.now
+            self.now.choice self.now.questions) }
+    {
         let (choice, questions) = (&self.choice, &self.questions);
         match self.reading {
-            Reading::List(listing) => write_list(rt, archive, choice, questions, *listing),
+            Reading::List(listing) => {
+                let output = StandardOutput::new(rt);
+                let _written = write_list(rt, archive, choice, questions, *listing, output)?;
+                Ok(())
+            }
             Reading::Export(target) => {
                 export_to(rt, archive, self.store, choice, questions, *target)
             }
@@ -109,6 +132,9 @@ impl OnRecords<'_, '_> {
 
 impl Work for OnRecords<'_, '_> {
     type Answer = ();
+
+    ghost does = { λ S g it before done after. OnOk done (ReadsBy g before after it.reading.now
+        it.choice it.questions) };
 
     fn work<S: Alter>(
         self,
@@ -127,6 +153,9 @@ struct ReadMessage<'a>(TypedNumber<'a>);
 
 impl Work for ReadMessage<'_> {
     type Answer = Vec<u8>;
+
+    ghost does = { λ S g it before done after. IfOk done (λ octets. ShowsOf g it.0.number
+        octets.items before after) };
 
     fn work<S: Alter>(
         self,
@@ -284,10 +313,26 @@ pub(crate) fn show<A: Archives>(
     record: TypedNumber<'_>,
     fields: bool,
 ) -> Result<(), Failure>
-    ensures { OnOk result (IsLent (A.is_at archives.now store.now)) }
+    ensures { OnOk result (Shows A.Kept.Store (A.is_at archives.now store.now)
+        record.entry.number) }
 {
     let message = lend(rt, archives, store, ReadMessage(record))?;
     write_message(rt, message.as_slice(), fields)
+}
+
+/// The same of a number as it is typed, in a store that is one file.
+fn show_typed<A: Archives>(
+    rt: &HostRuntime,
+    archives: &A,
+    store: &str,
+    typed: TypedNumber<'_>,
+    fields: bool,
+) -> Result<(), Failure>
+    ensures { OnOk result (ShowsAsTyped A.Kept.Store (A.is_at archives.now store.now)
+        typed.entry) }
+{
+    let record = number_in_file(rt, typed)?;
+    show(rt, archives, store, record, fields)
 }
 
 /// Says why a record is in its class, once the archive is closed.
@@ -311,7 +356,8 @@ fn read_records<'a, A: Archives>(
     choice: Choice<'a>,
     reading: &Reading<'a>,
 ) -> Result<(), Failure>
-    ensures { OnOk result (IsLent (A.is_at archives.now store.now)) }
+    ensures { OnOk result (IsDone (A.is_at archives.now store.now) (λ before after.
+        ReadsChosen A.Kept.Store before after reading.now choice.entry)) }
 {
     let questions = judge_choice(rt, &choice)?;
     let work = OnRecords {
@@ -494,7 +540,7 @@ fn history<A: Archives>(
 }
 
 /// Does what a command line asks for with the archive of the store at its path.
-#[tactic(auto, using(crate::proofs::DoneLemmas::nothing_said, crate::proofs::DoneLemmas::lent_as))]
+#[tactic(auto, using(crate::proofs::DoneLemmas::nothing_said, crate::proofs::DoneLemmas::lent_as, crate::proofs::DoneLemmas::done_as))]
 fn execute_at<'a, A: Archives>(
     rt: &'a HostRuntime,
     archives: &A,
@@ -521,9 +567,7 @@ fn execute_at<'a, A: Archives>(
             telling,
         } => intake(rt, archives, store, maildir, &filing, telling, told),
         Command::Import(asked) => import(rt, archives, store, &asked, told),
-        Command::Show { record, fields } => {
-            show(rt, archives, store, number_in_file(rt, record)?, fields)
-        }
+        Command::Show { record, fields } => show_typed(rt, archives, store, record, fields),
         Command::Copy { new, is_damaged } => copy_to(
             rt,
             archives,

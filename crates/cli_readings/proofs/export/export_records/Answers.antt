@@ -4,7 +4,7 @@ use Rattle.record_choice.specs.Entries.{entry_view}
 use Rattle.cli_console.specs.Finds.{IsFirst, found_ahead, found_in}
 use Rattle.cli_console.specs.Turns.{page_view}
 use Rattle.cli_readings.specs.Exports.{WritesExport}
-use Rattle.cli_readings.proofs.Ended.{none_ahead, search_ended}
+use Rattle.cli_readings.proofs.Ended.{none_ahead, search_ended, some_found}
 use Rattle.cli_readings.proofs.Exported.{whole_export}
 use Rattle.cli_readings.proofs.export.export_records.Goals as goal
 
@@ -26,6 +26,8 @@ returns-clause-exported g c = λ clean (a : Archive) s.
     (c.in_ok-first.ensures.first between a s) in
     let found = took.1 ∙ ap (λ es. map entry_view es ++ found_ahead c.next_found.new.self a) c.as_slice.ensures.value ∙ first.1
     ∙ c.in_ok-search.ensures.found a is in (
+      some_found (found_in c.args.choice.now c.args.questions.now a) (map entry_view c.in-Some.first.items)
+          (found_ahead c.next_found.new.self a) first.0 (first.1 ∙ c.in_ok-search.ensures.found a is),
       took.0,
       found,
       subst (λ out. WritesExport made c.args.seals c.args.destination a took.0 out) (sym c.into_outgoing.ensures)
