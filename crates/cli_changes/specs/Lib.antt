@@ -1,12 +1,15 @@
+pub mod CaptureLines
 pub mod Deliveries
 pub mod Imports
 pub mod ImportRounds
+pub mod ImportLines
 pub mod Datings
 pub mod Desks
 pub mod Intakes
 pub mod Rounds
 pub mod Spaces
 pub mod Moments
+pub mod Times
 pub mod Keeping
 pub mod Endings
 pub mod RuleSums
