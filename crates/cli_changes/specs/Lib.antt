@@ -18,6 +18,7 @@ pub mod Refilings
 pub mod Certificates
 pub mod Approvals
 pub mod Destructions
+pub mod DisposalDays
 pub mod DisposalTallies
 pub mod ClassChanges
 pub mod DueToday
