@@ -6,6 +6,7 @@ pub mod ImportLines
 pub mod Datings
 pub mod Desks
 pub mod Intakes
+pub mod IntakeCalls
 pub mod Rounds
 pub mod Spaces
 pub mod Moments
