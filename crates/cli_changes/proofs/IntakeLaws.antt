@@ -74,7 +74,8 @@ module _ {A : Type 0} (keeper : Keeper A Archive) where
       → OnlyMakes (Made keeper) (λ _ _. ⊥) room after (c ∷ [])
   quiet_one room after c quiet does = makes_one room after c (does quiet)
 
-  pub captures_one : (room after : Room A) (name octets : List ℕ) (answer : Result Taken (Refusal Failure)) → Captures keeper room name octets answer after
+  pub captures_one : (room after : Room A) (name octets : List ℕ) (answer : Result Taken (Refusal Failure))
+      → Captures keeper room name octets answer after
       → OnlyMakes (Made keeper) (λ _ _. ⊥) room after (capture name octets (answer_of answer) ∷ [])
   captures_one room after name octets answer h = makes_one room after (capture name octets (answer_of answer)) (answer, refl, h)
 

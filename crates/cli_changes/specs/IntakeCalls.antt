@@ -1,5 +1,6 @@
 -- The calls of an intake, by what they do in its room.
-use Rattle.std.specs.Prelude.{◌≡◌, ◌⊎◌, ◌==◌, ◌&&◌, ℕ, Bool, true, false, not, is_some, length, List, [], ◌∷◌, map, String, string_bytes, Option, None, Result, Ok}
+use Rattle.std.specs.Prelude.{◌≡◌, ◌⊎◌, ◌==◌, ◌&&◌, ℕ, Bool, true, false, not, is_some, length}
+use Rattle.std.specs.Prelude.{List, [], ◌∷◌, map, String, string_bytes, None, Result, Ok}
 use Rattle.std.specs.declared.alloc.Global.{Global}
 use Rattle.cli_console.specs.declared.failure.Failure.{Failure}
 use Rattle.cli_sources.specs.declared.maildir.NewMail.{NewMail}

@@ -1,4 +1,4 @@
-use Rattle.std.proofs.Common.{◌∙◌, ap, subst, sym, ℕ}
+use Rattle.std.proofs.Common.{◌∙◌, subst, sym, ℕ}
 use Rattle.std.proofs.lemmas.Result.{IfOk-weaker}
 use Rattle.cli_changes.specs.Desks.{IsDeskOf}
 use Rattle.cli_changes.specs.Intakes.{GoesOnAfter, IsBegun}
