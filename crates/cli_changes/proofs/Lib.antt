@@ -19,6 +19,7 @@ pub mod ReplacementLaws
 pub mod LookingLaws
 pub mod DueListLaws
 pub mod ApprovalLaws
+pub mod ReasonLaws
 mod ChangeRows
 mod ImportRows
 mod MoveRows

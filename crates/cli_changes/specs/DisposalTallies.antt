@@ -1,5 +1,8 @@
 -- What disposals come to in one store after another.
-use Rattle.std.specs.Prelude.{◌≡◌, ◌||◌, true, Result, Ok, Err, is_ok}
+use Rattle.std.specs.Prelude.{◌≡◌, ◌||◌, ℕ, true, Bool, if◌then◌else◌, List, ◌++◌, codes, Result, Ok, Err, is_ok}
+use Rattle.jiff.specs.Words.{date_text}
+use Rattle.jiff_core.specs.declared.civil.date.Date.{Date}
+use Rattle.cli_texts.specs.Words.{words}
 use Rattle.cli_console.specs.declared.failure.Failure.{Failure}
 use Rattle.cli_changes.specs.declared.disposal_tally.DisposalTally.{DisposalTally}
 
@@ -16,3 +19,9 @@ tally_after before (Err failure) = before
 abbrev pub EndsAs : {X : Type 0} → Result X Failure → Result (Unit {0}) Failure → Type 0
 EndsAs (Ok x) done = is_ok done ≡ true
 EndsAs (Err failure) done = done ≡ Err failure
+
+-- NO RECORD IS DUE BY A DAY and may be destroyed, of all or of those that are typed
+unfoldable pub none_words : (is_typed : Bool) → (day : Date) → List ℕ
+none_words is_typed day =
+    words (if is_typed then codes "none of these records" else codes "no record") ++ words (codes " is due by ") ++ words (date_text day)
+    ++ words (codes " and may be destroyed")

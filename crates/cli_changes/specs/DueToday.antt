@@ -54,6 +54,10 @@ with_record due schedule is_held today counts = record {
 unfoldable pub count_line : (what : List ℕ) → (after before : ℕ) → List ℕ
 count_line what after before = words what ++ number after ++ words (codes ", before ") ++ number before ++ 10 ∷ []
 
+-- the same behind other words
+unfoldable pub compared : (what : List ℕ) → (after before : ℕ) → List ℕ
+compared what after before = words what ++ number after ++ words (codes ", before ") ++ number before
+
 -- HOW MANY ARE DUE AT ONCE, and may be destroyed at once, after a change and before it: a line each
 abbrev pub due_today_lines : (before after : DueToday) → List ℕ
 due_today_lines before after =

@@ -12,12 +12,10 @@ use Rattle.record_archive.specs.Archive.{Archive}
 use Rattle.record_archive.specs.Calls.{Keeper}
 use Rattle.cli_changes.specs.Deliveries.{IsDelivered, IsLeft}
 use Rattle.cli_changes.specs.Endings.{IsAnswer, IsOfMaildir, taken_of}
-use Rattle.cli_changes.specs.Moments.{IsMomentIn, IsMomentNow}
-use Rattle.cli_changes.specs.Series.{KeepsAll}
+use Rattle.cli_changes.specs.Moments.{IsMomentNow}
 use Rattle.cli_changes.specs.Spaces.{with_message}
 use Rattle.cli_changes.specs.declared.intake.Intake.{Intake}
 use Rattle.cli_changes.specs.declared.intake_room.Room.{Room}
-use Rattle.cli_changes.specs.declared.moments.Timing.{Timing}
 use Rattle.cli_changes.specs.declared.rounds.Round.{Round}
 use Rattle.cli_changes.specs.declared.rounds.Rounds.{Rounds}
 use Rattle.cli_changes.specs.declared.rounds.Round.TheVariants.{Done, NextVolume}
@@ -103,13 +101,3 @@ abbrev pub GoesOnAfter : Rounds → Round Intake Rounds → Type 0
 GoesOnAfter rounds Done = Unit {0}
 GoesOnAfter rounds (NextVolume rest next) =
     (begun : ℕ) × (next.begun ≡ Some begun) × IsBegun rounds.begun begun × (is_some next.next ≡ true)
-
--- A ROUND IS MADE only at a moment that is judged by the days of the archive, of which no more was read before; it is the last one, or a next
--- one goes on
-pub record TakesRound {A : Type 0} (keeper : Keeper A Archive) (timing : Timing) (rounds : Rounds) (store : A) (round : Round Intake Rounds)
-    : Type 0 where
-  pub looked : A
-  pub reads : KeepsAll keeper store looked
-  pub moment : ℕ
-  pub judged : IsMomentIn keeper timing store looked moment
-  pub goes_on : GoesOnAfter rounds round

@@ -1,12 +1,16 @@
+pub mod CaptureLines
 pub mod Deliveries
 pub mod Imports
 pub mod ImportRounds
+pub mod ImportLines
 pub mod Datings
 pub mod Desks
 pub mod Intakes
+pub mod IntakeCalls
 pub mod Rounds
 pub mod Spaces
 pub mod Moments
+pub mod Times
 pub mod Keeping
 pub mod Endings
 pub mod RuleSums
@@ -15,6 +19,7 @@ pub mod Refilings
 pub mod Certificates
 pub mod Approvals
 pub mod Destructions
+pub mod DisposalDays
 pub mod DisposalTallies
 pub mod ClassChanges
 pub mod DueToday

@@ -10,7 +10,7 @@ use Rattle.std.specs.declared.alloc.Global.{Global}
 use Rattle.jiff.specs.Words.{epoch_day}
 use Rattle.class_plan.specs.Plans.{Listing}
 use Rattle.cli_texts.specs.DueDays.{due_by_plan}
-use Rattle.cli_texts.specs.Words.{number, words}
+use Rattle.cli_texts.specs.Words.{name, number, words}
 use Rattle.record_archive.specs.Archive.{Archive}
 use Rattle.record_choice.specs.Choices.{every_live_record}
 use Rattle.record_choice.specs.Entries.{RecordEntry, entry_view}
@@ -21,7 +21,7 @@ use Rattle.cli_changes.specs.declared.due_today.DueToday.{DueToday}
 use Rattle.cli_changes.specs.declared.plan_changes.Changes.{Changes}
 use Rattle.cli_changes.specs.declared.plan_changes.Changing.{Changing}
 use Rattle.cli_changes.specs.declared.plan_changes.PlanChanges.{PlanChanges}
-use Rattle.cli_changes.specs.DueToday.{due_today_lines, is_due_in, may_go_in, with_entry}
+use Rattle.cli_changes.specs.DueToday.{compared, due_today_lines, is_due_in, may_go_in, with_entry}
 
 -- the same due day, or none
 abbrev pub is_same_due : Option ℤ → Option ℤ → Bool
@@ -91,6 +91,16 @@ moved_line moved = words (codes "due dates that move: ") ++ number moved ++ 10 �
 -- what changes for all records, in three lines
 abbrev pub all_lines : Changes → List ℕ
 all_lines c = moved_line c.moved ++ due_today_lines c.before c.after
+
+-- how many due dates of a class move
+unfoldable pub class_moved : (path : List ℕ) → (moved : ℕ) → List ℕ
+class_moved path moved = words (codes "class ") ++ name path ++ words (codes ": due dates that move ") ++ number moved
+
+-- WHAT CHANGES FOR THE RECORDS OF A CLASS, in a line
+abbrev pub class_line : (path : List ℕ) → Changes → List ℕ
+class_line path c =
+    class_moved path c.moved ++ compared (codes "; due at once ") c.after.all c.before.all
+    ++ compared (codes "; may be destroyed at once ") c.after.destroyable c.before.destroyable ++ 10 ∷ []
 
 -- ---- one record after the other
 

@@ -1,8 +1,9 @@
 //! `deliver`: one message from standard input.
 
-ghost use Rattle.std.specs.Prelude.{◌≡◌, ℕ, List, is_ok, IfOk, IfSome};
+ghost use Rattle.std.specs.Prelude.{◌≡◌, ◌++◌, ℕ, List, is_ok, IfOk, IfSome, OnOk};
 ghost use Rattle.desk_commands.specs.Limits.{greatest_message};
 ghost use Rattle.desk_commands.specs.Payloads.{IsOf};
+ghost use Rattle.cli_changes.specs.CaptureLines.{captured_after, due_words};
 ghost use Rattle.cli_changes.specs.Deliveries.{
   IsDelivered,
   IsDeliveredAt,
@@ -85,16 +86,33 @@ fn put_records(
     text.end_line()
 }
 
+/// Adds a record of a capture, after a text.
+#[tactic(auto, unfolding(crate::specs::CaptureLines::captured_after))]
+fn put_captured(
+    alloc: Global,
+    text: &mut Shown,
+    before: &Shown,
+    volume: Option<u32>,
+    line: &Line,
+) -> Result<(), AllocError>
+    ensures { OnOk result (text.new ≡ text.old ++ captured_after before.now volume line.now) }
+{
+    text.text(before)?;
+    text.text(&captured_words(alloc, volume, line)?)
+}
+
 /// Adds what is told of a record that is due as it is captured.
+#[tactic(auto, unfolding(crate::specs::CaptureLines::due_words))]
 fn put_due(
     alloc: Global,
     text: &mut Shown,
     before: &Shown,
     volume: Option<u32>,
     line: &Line,
-) -> Result<(), AllocError> {
-    text.text(before)?;
-    text.text(&captured_words(alloc, volume, line)?)?;
+) -> Result<(), AllocError>
+    ensures { OnOk result (text.new ≡ text.old ++ due_words before.now volume line.now) }
+{
+    put_captured(alloc, text, before, volume, line)?;
     text.words(" is due already")
 }
 

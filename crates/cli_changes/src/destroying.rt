@@ -1,10 +1,10 @@
 //! The destruction of records that are asked for, and why it ends where that is no success.
 
-ghost use Rattle.std.specs.Prelude.{◌≡◌, ◌++◌, flat_map, is_ok, OnOk};
+ghost use Rattle.std.specs.Prelude.{◌≡◌, ◌++◌, flat_map, is_ok, IfOk, OnOk};
 ghost use Rattle.jiff.specs.Words.{epoch_day};
 ghost use Rattle.cli_console.specs.Failures.{IsOfStore};
 ghost use Rattle.cli_changes.specs.Destructions.{DisposesAsked, HandsOverFor, IsSettled, IsUndone};
-ghost use Rattle.cli_changes.specs.ReasonLines.{action_of, hold_words};
+ghost use Rattle.cli_changes.specs.ReasonLines.{action_of, hold_words, not_approved_words, not_due_words, reason_words, with_day};
 
 use class_plan::{Action, Date, Schedule};
 use cli_console::{Failure, Status};
@@ -38,8 +38,28 @@ fn action_word(schedule: Option<Schedule>) -> &'static str
     }
 }
 
+/// Adds words, and a day behind them.
+#[tactic(auto, unfolding(crate::specs::ReasonLines::with_day))]
+fn put_day(text: &mut Shown, what: &'static str, day: Date) -> Result<(), AllocError>
+    ensures { OnOk result (text.new ≡ text.old ++ with_day what.now day) }
+{
+    put!(text; words(what) value(&day))
+}
+
+/// Adds that a record is not due yet, or never.
+fn put_not_due(text: &mut Shown, due: Option<Date>) -> Result<(), AllocError>
+    ensures { OnOk result (text.new ≡ text.old ++ not_due_words due) }
+{
+    match due {
+        Some(due) => put_day(text, "82: not due before ", due),
+        None => text.words("82: never due"),
+    }
+}
+
 /// Adds why a record may not be destroyed, in words after the number of the refusal.
-fn put_reason(text: &mut Shown, reason: &Reason) -> Result<(), AllocError> {
+fn put_reason(text: &mut Shown, reason: &Reason) -> Result<(), AllocError>
+    ensures { OnOk result (text.new ≡ text.old ++ reason_words reason.now) }
+{
     match reason {
         Reason::Held(names) => {
             text.words("81: kept by the holds")?;
@@ -49,20 +69,22 @@ fn put_reason(text: &mut Shown, reason: &Reason) -> Result<(), AllocError> {
             text.words("83: the schedule of its class says ")?;
             text.words(action_word(*schedule))
         }
-        Reason::NotDue(Some(due)) => put!(text; "82: not due before " value(due)),
-        Reason::NotDue(None) => text.words("82: never due"),
+        Reason::NotDue(due) => put_not_due(text, *due),
         Reason::NoRecord => text.words("80: there is no record of that number"),
         Reason::Destroyed => text.words("84: the record is destroyed already"),
     }
 }
 
 /// That the record of a number may not be destroyed, and why.
+#[tactic(auto, unfolding(crate::specs::ReasonLines::not_approved_words))]
 fn not_approved(
     alloc: Global,
     volume: Option<u32>,
     number: u32,
     reason: &Reason,
-) -> Result<Shown, AllocError> {
+) -> Result<Shown, AllocError>
+    ensures { IfOk result (λ text. text ≡ not_approved_words volume number reason.now) }
+{
     let mut text = Shown::new(alloc);
     put_number(&mut text, volume, number)?;
     text.words(": ")?;

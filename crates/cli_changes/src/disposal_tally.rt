@@ -1,7 +1,7 @@
 //! What disposals come to in one store after another, of which it is told once.
 
-ghost use Rattle.std.specs.Prelude.{◌≡◌, false};
-ghost use Rattle.cli_changes.specs.DisposalTallies.{EndsAs, tally_after};
+ghost use Rattle.std.specs.Prelude.{◌≡◌, ◌++◌, false, OnOk};
+ghost use Rattle.cli_changes.specs.DisposalTallies.{EndsAs, none_words, tally_after};
 
 use class_plan::Date;
 use cli_console::{Failure, tell, tell_words_in};
@@ -18,7 +18,10 @@ pub struct DisposalTally {
 }
 
 /// Adds that no record is due by a day and may be destroyed, of all or of those that are typed.
-fn put_none(text: &mut Shown, is_typed: bool, day: Date) -> Result<(), AllocError> {
+#[tactic(auto, unfolding(crate::specs::DisposalTallies::none_words))]
+fn put_none(text: &mut Shown, is_typed: bool, day: Date) -> Result<(), AllocError>
+    ensures { OnOk result (text.new ≡ text.old ++ none_words is_typed day) }
+{
     text.words(if is_typed {
         "none of these records"
     } else {

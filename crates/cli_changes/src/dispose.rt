@@ -17,24 +17,27 @@ ghost use Rattle.cli_changes.specs.Certificates.{IsTaken};
 ghost use Rattle.cli_changes.specs.Destructions.{AreApproved, DisposesAsked, DisposesUnaltered, EachOnce, HandsOverFor, IsAskedFor};
 ghost use Rattle.cli_changes.specs.Destructions.{IsDisposal, IsDisposalOf, MayBegin};
 ghost use Rattle.cli_changes.specs.Destructions.{IsOnlyRead, IsRead, are_any, damage_asked, fate_asked, meant_numbers, numbers_of};
+ghost use Rattle.cli_changes.specs.DisposalDays.{IsDayAsked, day_asked as day_asked_of, not_yet_words as not_yet_words_of};
 ghost use Rattle.cli_changes.specs.DueLines.{ListsAsked, due_line as due_line_of, due_lines};
 ghost use Rattle.cli_changes.specs.Runs.{AreFilled, IsUnaltered, altered as altered_of, records_of};
 
 use crate::altered::{Damage, altered_in, due_line, end_list, judge_altered};
 use crate::certificates::{Certificates, Printer};
 use crate::destroying::{destroy_numbers, refused, unread};
+use crate::import::not_come_words;
 use crate::passed_over::tell_passed_over;
 use crate::runs::{Run, runs_of};
 use class_plan::Date;
 use cli_choice::{Meant, meant_of, set_of};
-use cli_console::{Failure, Sink, StandardOutput, judge_day, today};
+use cli_console::{Failure, Sink, StandardOutput, Status, is_by, today};
 use cli_history::{Seals, StoreLedger};
 use command_lines::archives::{Disposal, TypedNumbers};
 use record_archive::Line;
 use record_choice::{Repository, asked_lines};
 use record_store::StoreFault;
 use sqlite::Alter;
-use std::alloc::Global;
+use std::alloc::{AllocError, Global};
+use tool_texts::Shown;
 
 /// Which records a disposal by a day is about.
 fn meant_in<R: Repository<Fault = StoreFault>>(
@@ -372,17 +375,38 @@ fn dispose_of<S: Alter, P: Printer>(
     }
 }
 
+/// The day by which records are to be destroyed today: the one that is typed, or else today. A day that has not come yet is the error.
+fn day_asked(typed: Option<Date>, today: Date) -> Result<Date, Date>
+    ensures { result ≡ day_asked_of typed today }
+{
+    let Some(day) = typed else {
+        return Ok(today);
+    };
+    if is_by(typed, today) {
+        return Ok(day);
+    }
+    Err(day)
+}
+
+/// What is told of a day of a disposal that has not come yet.
+#[tactic(auto, unfolding(crate::specs::DisposalDays::not_yet_words))]
+fn not_yet_words(alloc: Global, day: Date) -> Result<Shown, AllocError>
+    ensures { IfOk result (λ text. text ≡ not_yet_words_of day) }
+{
+    let mut text = not_come_words(alloc, day)?;
+    text.words("; report --day shows what will be due by it")?;
+    Ok(text)
+}
+
 /// The day by which records are to be destroyed: the one that is typed, or else that of the clock. `Usage` where it has not
 /// come yet.
 pub fn day_of_disposal(rt: &HostRuntime, asked: &Disposal) -> Result<Date, Failure>
-    ensures { IfOk result (λ day. IfSome asked.now.day (λ typed. day ≡ typed)) }
+    ensures day { IfOk result (IsDayAsked asked.now.day) }
+    ensures typed { IfOk result (λ day. IfSome asked.now.day (λ typed. day ≡ typed)) }
 {
-    match asked.day {
-        Some(day) => {
-            judge_day(rt, day)?;
-            Ok(day)
-        }
-        None => today(rt),
+    match day_asked(asked.day, today(rt)?) {
+        Ok(day) => Ok(day),
+        Err(day) => Err(Failure::shown(Status::Usage, not_yet_words(rt.alloc(), day))),
     }
 }
 

@@ -3,7 +3,7 @@
 ghost use Rattle.std.specs.Prelude.{◌≡◌, ◌++◌, OnOk};
 ghost use Rattle.jiff.specs.Words.{epoch_day};
 ghost use Rattle.record_choice.specs.Entries.{entry_view};
-ghost use Rattle.cli_changes.specs.DueToday.{count_line, due_in_both, due_today_lines, none_due, with_entry, with_record};
+ghost use Rattle.cli_changes.specs.DueToday.{compared, count_line, due_in_both, due_today_lines, none_due, with_entry, with_record};
 
 use crate::refilings::is_destroyable;
 use class_plan::{Date, Plan, Schedule};
@@ -80,6 +80,19 @@ fn put_count(
 {
     put!(text; words(what) value(&after) ", before " value(&before))?;
     text.end_line()
+}
+
+/// Adds a count after a change and before it, behind other words.
+#[tactic(auto, unfolding(crate::specs::DueToday::compared))]
+pub(crate) fn put_compared(
+    text: &mut Shown,
+    what: &'static str,
+    after: u64,
+    before: u64,
+) -> Result<(), AllocError>
+    ensures { OnOk result (text.new ≡ text.old ++ compared what.now after before) }
+{
+    put!(text; words(what) value(&after) ", before " value(&before))
 }
 
 /// Adds how many records are due at once after a change and before it, and how many may be destroyed at once, a line each.

@@ -10,7 +10,7 @@ ghost use Rattle.record_ledger.specs.Ledgers.{keeper_of};
 ghost use Rattle.cli_console.specs.Counts.{counted as counted_if};
 ghost use Rattle.cli_console.specs.Failures.{IsToldAs};
 ghost use Rattle.cli_console.specs.Finds.{IsAtEnd, IsBounded, found_ahead, found_in};
-ghost use Rattle.cli_changes.specs.HoldLines.{change_words, changed_line as changed_line_of, said_words};
+ghost use Rattle.cli_changes.specs.HoldLines.{change_words, changed_line as changed_line_of, counted_words, found_words, named_words, no_more_line, said_words};
 ghost use Rattle.cli_changes.specs.Holdings.{
   AddsMeant,
   HoldsAs,
@@ -344,21 +344,51 @@ impl HoldTally {
     }
 }
 
-/// Adds the line that a hold was placed on no record, and why: none was found, or it keeps those that were found already.
-fn put_no_more(
+/// Adds a count between words.
+#[tactic(auto, unfolding(crate::specs::HoldLines::counted_words))]
+fn put_counted(
     line: &mut Shown,
-    name: &str,
-    passed: u64,
-    destroyed: u64,
-) -> Result<(), AllocError> {
-    line.words("hold ")?;
-    line.named(name.as_bytes())?;
-    line.words(" keeps no record more: ")?;
-    match (passed, destroyed) {
-        (0, 0) => line.words("no record is found")?,
-        (0, destroyed) => put!(line; "found 0 live, " value(&destroyed) " destroyed")?,
-        (passed, _) => put!(line; "0 new, " value(&passed) " kept already")?,
+    before: &'static str,
+    count: u64,
+    after: &'static str,
+) -> Result<(), AllocError>
+    ensures { OnOk result (line.new ≡ line.old ++ counted_words before.now count after.now) }
+{
+    put!(line; words(before) value(&count) words(after))
+}
+
+/// Adds what was found, where a hold keeps no record more.
+fn put_found(line: &mut Shown, passed: u64, destroyed: u64) -> Result<(), AllocError>
+    ensures { OnOk result (line.new ≡ line.old ++ found_words passed destroyed) }
+{
+    if passed > 0 {
+        return put_counted(line, "0 new, ", passed, " kept already");
     }
+    if destroyed > 0 {
+        return put_counted(line, "found 0 live, ", destroyed, " destroyed");
+    }
+    line.words("no record is found")
+}
+
+/// Adds a name between words.
+#[tactic(auto, unfolding(crate::specs::HoldLines::named_words))]
+fn put_named(
+    line: &mut Shown,
+    before: &'static str,
+    name: &[u8],
+    after: &'static str,
+) -> Result<(), AllocError>
+    ensures { OnOk result (line.new ≡ line.old ++ named_words before.now name.now after.now) }
+{
+    put!(line; words(before) named(name) words(after))
+}
+
+/// Adds the line that a hold was placed on no record, and why: none was found, or it keeps those that were found already.
+fn put_no_more(line: &mut Shown, name: &str, passed: u64, destroyed: u64) -> Result<(), AllocError>
+    ensures { OnOk result (line.new ≡ line.old ++ no_more_line name.now passed destroyed) }
+{
+    put_named(line, "hold ", name.as_bytes(), " keeps no record more: ")?;
+    put_found(line, passed, destroyed)?;
     line.end_line()
 }
 

@@ -18,6 +18,7 @@ ghost use Rattle.std.specs.Prelude.{
 ghost use Rattle.jiff.specs.Words.{epoch_day};
 ghost use Rattle.command_lines.specs.declared.archives.Moment.TheVariants as moment;
 ghost use Rattle.cli_changes.specs.Datings.{AreTermsOf, IsBeginning, IsDating};
+ghost use Rattle.cli_changes.specs.DisposalDays.{not_come_words as not_come_words_of};
 ghost use Rattle.cli_changes.specs.Endings.{EndsWith};
 ghost use Rattle.record_ledger.specs.Ledgers.{keeper_of};
 ghost use Rattle.cli_changes.specs.Imports.{
@@ -89,7 +90,9 @@ impl Drop for MailImport<'_> {
 }
 
 /// What is told of a day that has not come.
-fn not_come_words(alloc: Global, day: Date) -> Result<Shown, AllocError> {
+pub(crate) fn not_come_words(alloc: Global, day: Date) -> Result<Shown, AllocError>
+    ensures { IfOk result (λ text. text ≡ not_come_words_of day) }
+{
     let mut text = Shown::new(alloc);
     text.value(&day)?;
     text.words(": this day has not come yet")?;

@@ -1,6 +1,23 @@
 //! What an import says of its messages.
 
+ghost use Rattle.std.specs.Prelude.{◌≡◌, ◌++◌, option_map, OnOk};
 ghost use Rattle.cli_changes.specs.Endings.{EndsWith};
+ghost use Rattle.cli_changes.specs.ImportLines.{
+  between,
+  count_words,
+  empty_words,
+  known_front,
+  known_words,
+  line_at,
+  maildir_words,
+  more_lines,
+  passed_words,
+  some_words,
+  taken_words,
+  tally_line,
+  undated_line,
+  undated_lines,
+};
 ghost use Rattle.cli_changes.specs.Imports.{status_of};
 
 use crate::no_mail::imported_words;
@@ -18,15 +35,28 @@ fn put_count(
     count: u64,
     one: &'static str,
     many: &'static str,
-) -> Result<(), AllocError> {
+) -> Result<(), AllocError>
+    ensures { OnOk result (text.new ≡ text.old ++ count_words one.now many.now count) }
+{
     put!(text; value(&count) " " words(if count == 1 { one } else { many }))
 }
 
+/// Adds how many messages are taken, and were captured already.
+#[tactic(auto, unfolding(crate::specs::ImportLines::taken_words))]
+fn put_taken(text: &mut Shown, tally: &ImportTally) -> Result<(), AllocError>
+    ensures { OnOk result (text.new ≡ text.old ++ taken_words tally.now) }
+{
+    put!(text; "taken " value(&tally.taken) ", captured already " value(&tally.known))
+}
+
 /// Adds the line of what became of messages.
-fn put_tally(text: &mut Shown, tally: &ImportTally) -> Result<(), AllocError> {
+#[tactic(auto, unfolding(crate::specs::ImportLines::tally_line))]
+fn put_tally(text: &mut Shown, tally: &ImportTally) -> Result<(), AllocError>
+    ensures { OnOk result (text.new ≡ text.old ++ tally_line tally.now) }
+{
     let staying = tally.unfit.saturating_add(tally.given_up);
-    put!(text; "taken " value(&tally.taken) ", captured already " value(&tally.known)
-        ", stay " value(&staying))?;
+    put_taken(text, tally)?;
+    put!(text; ", stay " value(&staying))?;
     text.end_line()
 }
 
@@ -38,19 +68,43 @@ pub(crate) fn write_tally(rt: &HostRuntime, tally: &ImportTally) {
     }
 }
 
+/// Adds how many there are of something, where there are some.
+#[tactic(auto, unfolding(crate::specs::ImportLines::some_words))]
+fn put_some(
+    text: &mut Shown,
+    count: u64,
+    one: &'static str,
+    many: &'static str,
+) -> Result<(), AllocError>
+    ensures { OnOk result (text.new ≡ text.old ++ some_words one.now many.now count) }
+{
+    if count > 0 {
+        return put_count(text, count, one, many);
+    }
+    Ok(())
+}
+
+/// Adds what stands between files and folders that were passed over, where there are both.
+#[tactic(auto, unfolding(crate::specs::ImportLines::between))]
+fn put_between(text: &mut Shown, files: u64, folders: u64) -> Result<(), AllocError>
+    ensures { OnOk result (text.new ≡ text.old ++ between files folders) }
+{
+    if files > 0 && folders > 0 {
+        return text.words(", ");
+    }
+    Ok(())
+}
+
 /// Adds that files and folders were passed over, of which there is one at least.
-fn put_passed(text: &mut Shown, tally: &ImportTally) -> Result<(), AllocError> {
+#[tactic(auto, unfolding(crate::specs::ImportLines::passed_words))]
+fn put_passed(text: &mut Shown, tally: &ImportTally) -> Result<(), AllocError>
+    ensures { OnOk result
+        (text.new ≡ text.old ++ passed_words tally.now.files tally.now.folders) }
+{
     text.words("passed over: ")?;
-    if tally.files > 0 {
-        put_count(text, tally.files, "file", "files")?;
-    }
-    if tally.files > 0 && tally.folders > 0 {
-        text.words(", ")?;
-    }
-    if tally.folders == 0 {
-        return Ok(());
-    }
-    put_count(text, tally.folders, "folder", "folders")
+    put_some(text, tally.files, "file", "files")?;
+    put_between(text, tally.files, tally.folders)?;
+    put_some(text, tally.folders, "folder", "folders")
 }
 
 /// Tells how many files and folders were passed over, if any.
@@ -78,10 +132,20 @@ pub(crate) fn end_of(tally: &ImportTally) -> Result<(), Failure>
     Ok(())
 }
 
-/// Adds what is told of a message that is captured already.
-fn put_known(text: &mut Shown, name: &str, first: FirstRecord) -> Result<(), AllocError> {
+/// Adds that a message is captured already, before the number of its first record.
+#[tactic(auto, unfolding(crate::specs::ImportLines::known_front))]
+fn put_known_front(text: &mut Shown, name: &str) -> Result<(), AllocError>
+    ensures { OnOk result (text.new ≡ text.old ++ known_front name.now) }
+{
     text.named(name.as_bytes())?;
-    text.words(" is captured already, as record ")?;
+    text.words(" is captured already, as record ")
+}
+
+/// Adds what is told of a message that is captured already.
+fn put_known(text: &mut Shown, name: &str, first: FirstRecord) -> Result<(), AllocError>
+    ensures { OnOk result (text.new ≡ text.old ++ known_words name.now first) }
+{
+    put_known_front(text, name)?;
     put_number(text, first.volume, first.number)
 }
 
@@ -94,7 +158,10 @@ pub(crate) fn tell_known(rt: &HostRuntime, name: &str, first: FirstRecord) {
 }
 
 /// Adds what is told of a Maildir in a source.
-fn put_maildir(text: &mut Shown, path: &str) -> Result<(), AllocError> {
+#[tactic(auto, unfolding(crate::specs::ImportLines::maildir_words))]
+fn put_maildir(text: &mut Shown, path: &str) -> Result<(), AllocError>
+    ensures { OnOk result (text.new ≡ text.old ++ maildir_words path.now) }
+{
     text.named(path.as_bytes())?;
     text.words(": a Maildir too, which is not taken; name it to import it")
 }
@@ -110,7 +177,11 @@ pub(crate) fn tell_maildirs(rt: &HostRuntime, passed: &PassedOver) {
 }
 
 /// Adds what is told of a folder without a message, with the path of the Maildir to which it belongs, if that is known.
-fn put_empty(text: &mut Shown, path: &str, maildir: Option<&str>) -> Result<(), AllocError> {
+#[tactic(auto, unfolding(crate::specs::ImportLines::empty_words))]
+fn put_empty(text: &mut Shown, path: &str, maildir: Option<&str>) -> Result<(), AllocError>
+    ensures { OnOk result (text.new
+        ≡ text.old ++ empty_words path.now (option_map (λ m. m.now) maildir.entry)) }
+{
     text.words("no message is found in ")?;
     text.named(path.as_bytes())?;
     let Some(maildir) = maildir else {
@@ -128,14 +199,40 @@ pub(crate) fn tell_empty(rt: &HostRuntime, path: &str) {
     }
 }
 
-/// Adds what is told of lines of an mbox that look like separators and have no date.
-fn put_undated(text: &mut Shown, path: &str, first: u64, count: u64) -> Result<(), AllocError> {
-    put!(text; named(path.as_bytes()) ": line " value(&first)
-        " begins with From and has no date, so no message begins there")?;
-    if count <= 1 {
-        return Ok(());
+/// Adds the number of a line of an mbox.
+#[tactic(auto, unfolding(crate::specs::ImportLines::line_at))]
+fn put_line_at(text: &mut Shown, path: &str, line: u64) -> Result<(), AllocError>
+    ensures { OnOk result (text.new ≡ text.old ++ line_at path.now line) }
+{
+    put!(text; named(path.as_bytes()) ": line " value(&line))
+}
+
+/// Adds the first line of an mbox that looks like a separator and has no date.
+#[tactic(auto, unfolding(crate::specs::ImportLines::undated_line))]
+fn put_first_undated(text: &mut Shown, path: &str, first: u64) -> Result<(), AllocError>
+    ensures { OnOk result (text.new ≡ text.old ++ undated_line path.now first) }
+{
+    put_line_at(text, path, first)?;
+    text.words(" begins with From and has no date, so no message begins there")
+}
+
+/// Adds how many such lines there are, where there is more than one.
+#[tactic(auto, unfolding(crate::specs::ImportLines::more_lines))]
+fn put_more_lines(text: &mut Shown, count: u64) -> Result<(), AllocError>
+    ensures { OnOk result (text.new ≡ text.old ++ more_lines count) }
+{
+    if count > 1 {
+        return put!(text; "; there are " value(&count) " such lines");
     }
-    put!(text; "; there are " value(&count) " such lines")
+    Ok(())
+}
+
+/// Adds what is told of lines of an mbox that look like separators and have no date.
+fn put_undated(text: &mut Shown, path: &str, first: u64, count: u64) -> Result<(), AllocError>
+    ensures { OnOk result (text.new ≡ text.old ++ undated_lines path.now first count) }
+{
+    put_first_undated(text, path, first)?;
+    put_more_lines(text, count)
 }
 
 /// Tells of the lines of an mbox that look like separators and have no date: the number of the first one, and how many there are.

@@ -1,6 +1,6 @@
 //! `intake`: the new messages of a Maildir.
 
-ghost use Rattle.std.specs.Prelude.{◌≡◌, ◌==◌, length, not, IfErr, IfOk};
+ghost use Rattle.std.specs.Prelude.{◌≡◌, ◌==◌, is_ok, length, not, true, IfErr, IfOk, OnOk};
 ghost use Rattle.std.specs.IoError.{error_kind};
 ghost use Rattle.record_ledger.specs.Ledgers.{keeper_of};
 ghost use Rattle.cli_changes.specs.Endings.{
@@ -10,7 +10,8 @@ ghost use Rattle.cli_changes.specs.Endings.{
   maildir_status,
   status_after as status_after_of,
 };
-ghost use Rattle.cli_changes.specs.Intakes.{GoesOnAfter, TakesRound};
+ghost use Rattle.cli_changes.specs.IntakeCalls.{is_none as is_none_of, IsFound, TakesAll, TakesMail, TakesNew, TakesRound};
+ghost use Rattle.cli_changes.specs.Intakes.{GoesOnAfter};
 ghost use Rattle.cli_changes.specs.Rounds.{IsEndAfter};
 
 use crate::intake_log::IntakeLog;
@@ -129,15 +130,15 @@ fn take_over<A: Records>(
     rt: &HostRuntime,
     room: &mut Room<'_, A>,
     begun: u64,
-) -> Result<(), Failure> {
+) -> Result<(), Failure>
+    ensures { OnOk result (TakesAll A.keeper room.old room.new) }
+{
     let mut since = Shown::new(rt.alloc());
     put_time(&mut since, begun)?;
     let day = day_of_moment(begun);
     let recalled = recall(&room.job, room.has_complained);
     let taking = take_in(room, &recalled.memory, day)?;
-    if !room.is_full() {
-        room.hear_nameless(taking.nameless, &recalled.memory, day);
-    }
+    room.hear_nameless(taking.nameless, &recalled.memory, day);
     let is_whole = matches!(&taking.end, End::Done);
     let has_complained = renew(&room.job, &recalled, day, room.told.as_slice(), is_whole);
     if room.is_full() {
@@ -148,7 +149,9 @@ fn take_over<A: Records>(
 }
 
 /// The new messages of a Maildir that are left for a round, if they can be moved.
-fn movable_mail(rt: &HostRuntime, maildir: &str, rounds: &Rounds) -> Result<NewMail, Failure> {
+fn movable_mail(rt: &HostRuntime, maildir: &str, rounds: &Rounds) -> Result<NewMail, Failure>
+    ensures { IfOk result (IsFound rounds.now) }
+{
     let NewMail { names, nameless } = match new_mail(rt, maildir) {
         Ok(mail) => mail,
         Err(error) => return Err(maildir_failure(rt, maildir, error)),
@@ -164,7 +167,9 @@ fn movable_mail(rt: &HostRuntime, maildir: &str, rounds: &Rounds) -> Result<NewM
 }
 
 /// The same, and the moment at which they are looked for.
-fn mail_now(rt: &HostRuntime, maildir: &str, rounds: &Rounds) -> Result<(NewMail, u64), Failure> {
+fn mail_now(rt: &HostRuntime, maildir: &str, rounds: &Rounds) -> Result<(NewMail, u64), Failure>
+    ensures { IfOk result (λ found. IsFound rounds.now found.0) }
+{
     let mail = movable_mail(rt, maildir, rounds)?;
     let moment = now(rt)?;
     Ok((mail, moment))
@@ -175,7 +180,7 @@ fn ended_by<'j>(
     done: Result<(), Failure>,
     round: Round<Intake<'j>, Rounds>,
 ) -> Result<Round<Intake<'j>, Rounds>, Failure>
-    ensures { IfOk result (λ r. r ≡ round.entry) }
+    ensures { IfOk result (λ r. (r ≡ round.entry) × (is_ok done ≡ true)) }
 {
     match done {
         Ok(()) => Ok(round),
@@ -194,7 +199,9 @@ fn take_mail<'j, A: Records>(
     mail: NewMail,
     moment: u64,
 ) -> (A, Result<Round<Intake<'j>, Rounds>, Failure>)
-    ensures { IfOk result.1 (GoesOnAfter rounds) }
+    ensures goes_on { IfOk result.1 (GoesOnAfter rounds) }
+    ensures taken { IfOk result.1
+        (TakesMail A.keeper job.entry rounds place mail archive result.0) }
 {
     let is_told = rounds.begun.is_some();
     let begun = rounds.begun.unwrap_or(moment);
@@ -210,6 +217,13 @@ fn take_mail<'j, A: Records>(
     (archive, ended_by(done, round))
 }
 
+/// Whether no message is new, in an intake that has not begun.
+fn is_none(rounds: &Rounds, mail: &NewMail) -> bool
+    ensures { result ≡ is_none_of rounds.now mail.now }
+{
+    rounds.begun.is_none() && mail.names.is_empty() && mail.nameless == 0
+}
+
 /// Takes the new messages over at a desk over an archive. Where there is none, no desk is made.
 fn take_timed<'j, A: Records>(
     rt: &HostRuntime,
@@ -219,14 +233,14 @@ fn take_timed<'j, A: Records>(
     timing: Timing,
     place: Place,
 ) -> (A, Result<Round<Intake<'j>, Rounds>, Failure>)
-    ensures { IfOk result.1 (GoesOnAfter rounds) }
+    ensures goes_on { IfOk result.1 (GoesOnAfter rounds) }
+    ensures taken { IfOk result.1 (TakesNew A.keeper job.entry rounds place archive result.0) }
 {
     let (mail, moment) = match mail_now(rt, job.maildir, &rounds) {
         Ok(found) => found,
         Err(failure) => return (archive, Err(failure)),
     };
-    let has_begun = rounds.begun.is_some();
-    if !has_begun && mail.names.is_empty() && mail.nameless == 0 {
+    if is_none(&rounds, &mail) {
         forget(&job);
         return (archive, Ok(Round::Done));
     }
@@ -247,7 +261,7 @@ pub fn take_new<'a, 'j, S: Alter>(
     Result<Round<Intake<'j>, Rounds>, Failure>,
 )
     ensures { IfOk result.1
-        (TakesRound (keeper_of S.Store) job.entry.timing rounds archive.entry) }
+        (TakesRound (keeper_of S.Store) job.entry rounds place archive.entry result.0) }
 {
     let mut archive = archive;
     match timing_in(rt, &mut archive, job.timing) {

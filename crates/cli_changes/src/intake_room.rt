@@ -16,6 +16,7 @@ ghost use Rattle.desk_commands.specs.Payloads.{IsOf};
 ghost use Rattle.mail_intake.specs.declared.mailroom.Refusal.TheVariants.{Stays};
 ghost use Rattle.cli_changes.specs.Deliveries.{IsDropped, IsLeft, IsLeftBy};
 ghost use Rattle.cli_changes.specs.Endings.{taken_of, IsAnswer, IsGivenUp, IsOfMaildir, IsRefusal};
+ghost use Rattle.cli_changes.specs.IntakeCalls.{Made};
 ghost use Rattle.cli_changes.specs.Intakes.{
   BeginsAfter,
   EndsRound,
@@ -162,6 +163,7 @@ impl<'a, A: Records> Room<'a, A> {
         ensures job { result.job ≡ job.entry }
         ensures place { result.place ≡ place }
         ensures desk { result.desk ≡ desk }
+        ensures mail { result.mail ≡ mail }
         ensures rounds { BeginsAfter rounds result }
     {
         let Rounds {
@@ -437,9 +439,12 @@ impl<'a, A: Records> Room<'a, A> {
         answer
     }
 
-    /// Hears that messages stay whose names are no UTF-8. It is told how many, unless that was told on this day.
-    pub fn hear_nameless(&mut self, count: usize, memory: &Memory, day: u64) {
-        if count == 0 {
+    /// Hears that messages stay whose names are no UTF-8, once no message is left for a next round. It is told how many, unless that was told
+    /// on this day.
+    pub fn hear_nameless(&mut self, count: usize, memory: &Memory, day: u64)
+        ensures { IsQuiet self.old self.new }
+    {
+        if count == 0 || self.is_full() {
             return;
         }
         let number = count.to_string(self.job.rt.alloc());
@@ -459,9 +464,9 @@ impl<'a, A: Records> Room<'a, A> {
 impl<'a, A: Records> Mailroom for Room<'a, A> {
     type Fault = Failure;
 
-    // What the system's files have, and which calls were made of them, no contract says.
-    ghost made = { λ _ _. Unit {0} };
+    ghost made = { Made A.keeper };
 
+    // What the system's files have, no contract says.
     ghost has = { λ _ _. ⊥ };
 
     fn list(&mut self) -> Result<Listing, Failure> {

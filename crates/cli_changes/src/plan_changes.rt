@@ -6,9 +6,9 @@ ghost use Rattle.cli_choice.specs.Reads.{IsReadOf};
 ghost use Rattle.record_archive.specs.Archive.{Archive};
 ghost use Rattle.record_choice.specs.Entries.{entry_view};
 ghost use Rattle.record_choice.specs.Reads.{OnlyReads};
-ghost use Rattle.cli_changes.specs.PlanChanges.{all_lines, is_any as is_any_of, is_same_due, moved_line, no_changes, with_change, AreChanges, CountAlso, Takes, live_entries, none_taken, more_taken};
+ghost use Rattle.cli_changes.specs.PlanChanges.{all_lines, class_line, class_moved, is_any as is_any_of, is_same_due, moved_line, no_changes, with_change, AreChanges, CountAlso, Takes, live_entries, none_taken, more_taken};
 
-use crate::due_today::{DueToday, put_due_today};
+use crate::due_today::{DueToday, put_compared, put_due_today};
 use class_plan::{Date, Plan, day_number};
 use cli_console::{Failure, Reader, counted, read_chosen};
 use cli_texts::{Headers, due_by};
@@ -184,13 +184,32 @@ fn put_all(text: &mut Shown, changes: &Changes) -> Result<(), AllocError>
     put_due_today(text, changes.before, changes.after)
 }
 
+/// Adds how many due dates of a class move by a new plan.
+#[tactic(auto, unfolding(crate::specs::PlanChanges::class_moved))]
+fn put_class_moved(text: &mut Shown, path: &[u8], moved: u64) -> Result<(), AllocError>
+    ensures { OnOk result (text.new ≡ text.old ++ class_moved path.now moved) }
+{
+    put!(text; "class " named(path) ": due dates that move " value(&moved))
+}
+
 /// Adds what a new plan changes for the records of a class, in a line.
-fn put_class(text: &mut Shown, path: &[u8], changes: &Changes) -> Result<(), AllocError> {
-    let (before, after) = (changes.before, changes.after);
-    put!(text; "class " named(path) ": due dates that move " value(&changes.moved)
-        "; due at once " value(&after.all) ", before " value(&before.all)
-        "; may be destroyed at once " value(&after.destroyable)
-        ", before " value(&before.destroyable))?;
+fn put_class(text: &mut Shown, path: &[u8], changes: &Changes) -> Result<(), AllocError>
+    ensures { OnOk result (text.new ≡ text.old ++ class_line path.now changes.now) }
+{
+    put_class_moved(text, path, changes.moved)?;
+    put_compared(
+        text,
+        "; due at once ",
+        changes.after.all,
+        changes.before.all,
+    )?;
+    let what = "; may be destroyed at once ";
+    put_compared(
+        text,
+        what,
+        changes.after.destroyable,
+        changes.before.destroyable,
+    )?;
     text.end_line()
 }
 

@@ -3,9 +3,10 @@
 ghost use Rattle.std.specs.Prelude.{◌≡◌, ◌||◌, ℕ, List, false, not, IfOk, OnErr, OnOk};
 ghost use Rattle.record_archive.specs.Archive.{Archive};
 ghost use Rattle.record_archive.specs.Calls.{Keeper};
-ghost use Rattle.record_archive.specs.Faults.{is_trouble};
+ghost use Rattle.record_archive.specs.Faults.{is_trouble, number_of};
 ghost use Rattle.cli_console.specs.Finds.{IsEndOf};
 ghost use Rattle.cli_changes.specs.Holdings.{is_any_of};
+ghost use Rattle.cli_changes.specs.ReasonLines.{refusal_words as refusal_words_of};
 ghost use Rattle.cli_changes.specs.Series.{Command, IsDoneOn, IsTried, IsTriedOn, StopsIn, changed_in_both};
 
 use cli_console::{Failure, Status, refusal_words, tell};
@@ -127,12 +128,16 @@ pub(crate) fn change_all<A, C: RecordChange<A>>(
 }
 
 /// That the archive refuses to change a record, which is that of a volume in an archive of volumes.
+#[tactic(auto, unfolding(crate::specs::ReasonLines::refusal_words))]
 pub(crate) fn refusal_line(
     alloc: Global,
     volume: Option<u32>,
     number: u32,
     refusal: ArchiveRefusal,
-) -> Result<Shown, AllocError> {
+) -> Result<Shown, AllocError>
+    ensures { IfOk result (λ line. (said : List ℕ)
+        × (line ≡ refusal_words_of volume number (number_of refusal) said)) }
+{
     let refusal = refusal.number();
     let mut line = Shown::new(alloc);
     put_number(&mut line, volume, number)?;

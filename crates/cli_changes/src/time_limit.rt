@@ -1,5 +1,8 @@
 //! How long the work on a message may take.
 
+ghost use Rattle.std.specs.Prelude.{◌≡◌, ◌++◌, IfOk, OnOk};
+ghost use Rattle.cli_changes.specs.Times.{seconds_words, too_slow_reason as too_slow_reason_of, too_slow_words as too_slow_words_of};
+
 use cli_console::{Failure, Status};
 use filing_desk::Patience;
 use std::alloc::{AllocError, Global};
@@ -42,13 +45,18 @@ impl Patience for TimeLimit<'_> {
 }
 
 /// Adds a time in words.
-fn put_seconds(text: &mut Shown, seconds: u64) -> Result<(), AllocError> {
+fn put_seconds(text: &mut Shown, seconds: u64) -> Result<(), AllocError>
+    ensures { OnOk result (text.new ≡ text.old ++ seconds_words seconds) }
+{
     text.value(&seconds)?;
     text.words(if seconds == 1 { " second" } else { " seconds" })
 }
 
 /// What is told of a message that took longer than so many seconds.
-pub fn too_slow_words(alloc: Global, seconds: u64) -> Result<Shown, AllocError> {
+#[tactic(auto, unfolding(crate::specs::Times::too_slow_words))]
+pub fn too_slow_words(alloc: Global, seconds: u64) -> Result<Shown, AllocError>
+    ensures { IfOk result (λ text. text ≡ too_slow_words_of seconds) }
+{
     let mut text = Shown::new(alloc);
     text.words("the message took more than ")?;
     put_seconds(&mut text, seconds)?;
@@ -57,7 +65,10 @@ pub fn too_slow_words(alloc: Global, seconds: u64) -> Result<Shown, AllocError> 
 }
 
 /// Why a message stays that took longer than so many seconds.
-pub fn too_slow_reason(alloc: Global, seconds: u64) -> Result<Shown, AllocError> {
+#[tactic(auto, unfolding(crate::specs::Times::too_slow_reason))]
+pub fn too_slow_reason(alloc: Global, seconds: u64) -> Result<Shown, AllocError>
+    ensures { IfOk result (λ text. text ≡ too_slow_reason_of seconds) }
+{
     let mut text = Shown::new(alloc);
     text.words("it took more than ")?;
     put_seconds(&mut text, seconds)?;
