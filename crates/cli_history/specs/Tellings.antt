@@ -1,5 +1,6 @@
 -- What the rows of a history tell of messages and classes, whether something stands against them or not.
 use Rattle.std.specs.Prelude.{◌≡◌, ◌≢◌, ℕ, Bool, true, false, List, [], ◌∷◌, Option, Some, None, Result, Ok, Err}
+use Rattle.sqlite.specs.Store.{Ghosts}
 use Rattle.record_tables.specs.Events.{Event as Row}
 use Rattle.record_tables.specs.declared.event_layout.EventLayout.{EventLayout}
 use Rattle.record_tables.specs.declared.event_layout.EventLayout.TheVariants.{Absent, Present, Other}
@@ -9,11 +10,14 @@ use Rattle.record_history.specs.Readable.{IsReadable}
 use Rattle.record_history.specs.Titles.{Title, last_title, title_given}
 use Rattle.record_history.specs.Views.{event_view}
 use Rattle.record_history.specs.declared.events.Event.{Event as ReadEvent}
+use Rattle.record_noted.specs.Histories.{rows_of}
+use Rattle.record_store.specs.declared.store.Store.{Store}
 use Rattle.cli_console.specs.Failures.{is_bad_data}
 use Rattle.cli_console.specs.declared.failure.Failure.{Failure}
 use Rattle.cli_console.specs.declared.failure.Failure.TheVariants.{Closed, NoMemory, Told, Reported}
 use Rattle.cli_history.specs.Seals.{known, later, sealed_by}
 use Rattle.cli_history.specs.Titles.{Path, title_of}
+use Rattle.cli_history.specs.Walks.{KeepsLinesIn}
 use Rattle.cli_history.specs.declared.seals.Seals.{Seals}
 
 -- there is a table of events
@@ -72,6 +76,10 @@ pub record AreTold (s : Seals) (rows : List Row) : Type 0 where
   pub tell : TellEach rows told
   pub seals : (message : ℕ) → known s message ≡ sealed_among rows told message
   pub titles : (path : Path) → title_of s.titles path ≡ titled_among path.items told
+
+-- THE SEALS AND TITLES are those that the history of a store tells, if it keeps one
+abbrev pub AreSealsOf : {S : Type 0} → Ghosts S → Store S → Seals → Type 0
+AreSealsOf g store seals = (ls : List (List ℕ)) → KeepsLinesIn g store ls → AreTold seals (rows_of ls)
 
 -- the seals and titles after a row are those from before, and what it tells
 pub record TakesRow (r : Row) (old new : Seals) : Type 0 where

@@ -8,13 +8,11 @@ use Rattle.choice_words.specs.declared.choice.Choice.{Choice}
 use Rattle.command_lines.specs.declared.archives.Listing.{Listing}
 use Rattle.record_archive.specs.Archive.{Archive, message}
 use Rattle.record_choice.specs.Reads.{OnlyReads}
-use Rattle.record_noted.specs.Histories.{rows_of}
 use Rattle.record_store.specs.Stores.{StandsFor}
 use Rattle.record_store.specs.declared.store.Store.{Store}
 use Rattle.cli_choice.specs.declared.questions.Questions.{Questions}
 use Rattle.cli_console.specs.Finds.{HasSingles, found_in}
-use Rattle.cli_history.specs.Tellings.{AreTold}
-use Rattle.cli_history.specs.Walks.{KeepsLinesIn}
+use Rattle.cli_history.specs.Tellings.{AreSealsOf}
 use Rattle.cli_history.specs.declared.seals.Seals.{Seals}
 use Rattle.cli_readings.specs.Exports.{ExportsFound}
 use Rattle.cli_readings.specs.Lists.{WritesList}
@@ -51,7 +49,7 @@ ListsOf g written listing choice questions before after old new =
 pub record IsExported {S : Type 0} (g : Ghosts S) (folder : List ℕ) (choice : Choice) (questions : Questions) (before : Store S) (a : Archive)
     : Type 0 where
   pub seals : Seals
-  pub told : (ls : List (List ℕ)) → KeepsLinesIn g before ls → AreTold seals (rows_of ls)
+  pub told : AreSealsOf g before seals
   pub begun : Folder
   pub named : begun.path.now ≡ folder
   pub out : Outgoing Folder
@@ -87,7 +85,7 @@ ShowsOf g number octets before after =
 pub record IsTwiceListed {S K : Type 0} (g : Ghosts S) (written : K → List ℕ → Type 0) (listing : Listing) (before : Store S) (old new : K)
     (a : Archive) : Type 0 where
   pub seals : Seals
-  pub told : (ls : List (List ℕ)) → KeepsLinesIn g before ls → AreTold seals (rows_of ls)
+  pub told : AreSealsOf g before seals
   pub writes : WritesTwice written listing seals old a new
 
 -- the same of a store, of which this is left
