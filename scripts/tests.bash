@@ -399,7 +399,7 @@ scripts() {
     count "an unknown word for ./test failing" gives_up 2 "^usage:" test failing memory some
     count "an unknown word for ./install" gives_up 2 "^usage:" install --nothing
     count "transcripts in a whole checkout" types_in_a_checkout
-    for script in test scripts/failing.bash scripts/hostile.bash prove; do
+    for script in test scripts/failing.bash scripts/hostile.bash scripts/million.bash prove; do
         count "functions of $script" has_no_namesakes "$script"
     done
     if command -v shellcheck > "$work/said"; then
