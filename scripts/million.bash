@@ -58,7 +58,7 @@ END
 }
 
 # A random number below one of up to a thousand million.
-below() {
+random_below() {
     echo $(((RANDOM * 32768 + RANDOM) % $1))
 }
 
@@ -87,14 +87,14 @@ copied_so_far() {
 wait_for_a_moment() {
     local aim=0 within=$((count_of_all < 20000 ? count_of_all * 10 : 200000))
     if ((RANDOM % 4 > 0)); then
-        aim=$(below "$2")
+        aim=$(random_below "$2")
     else
         within=$((within * 10))
     fi
     while (($("$1") < aim)) && kill -0 "$process"; do
         sleep 0.05
     done 2> /dev/null
-    within=$(below "$within")
+    within=$(random_below "$within")
     sleep "$((within / 1000000)).$(printf '%06d' $((within % 1000000)))"
 }
 
@@ -120,25 +120,32 @@ keep_lines() {
     cat -- "$folder/said" >> "$folder/printed-$1"
 }
 
+# Counts a kill, and notes how far the command was, and the draft of a volume that it has left. A command that prints what it does goes on
+# there; a copy begins anew.
+note_kill() {
+    kills[$1]=$((kills[$1] + 1))
+    echo "$1 $2" >> "$folder/shots"
+    ! compgen -G "$here/archive/*.mailfile-new" >> "$folder/drafts"
+    [[ $1 == copy ]] || left=$((left - $2))
+}
+
 # Has a subcommand done to its end: it is killed some times, each time started again, and then left to itself. After each kill, something
 # is looked at. Whatever else ends it is a failure.
 done_in_the_end() {
-    local after=$1 measure=$2 most=$3 name=$4 status=137 shot
+    local after=$1 measure=$2 left=$3 name=$4 status=137 shot
     for ((shot = 0; shot < SHOTS && status == 137; shot++)); do
-        shoot "$measure" "$most" "${@:4}"
-        keep_lines "$name"
+        shoot "$measure" $((left > 1 ? left : 1)) "${@:4}"
         if ((status == 137)); then
-            kills[$name]=$((kills[$name] + 1))
-            echo "$name $("$measure")" >> "$folder/shots"
-            ! compgen -G "$here/archive/*.mailfile-new" >> "$folder/drafts"
+            note_kill "$name" "$("$measure")"
+            keep_lines "$name"
             "$after" || return
         fi
     done
     if ((status == 137)); then
         status=0
         "$keeper" "$name" --store "$here/archive" "${@:5}" > "$folder/said" 2> "$folder/told" || status=$?
-        keep_lines "$name"
     fi
+    keep_lines "$name"
     ((status == 0)) || {
         echo "$name: status $status: $(tail -n 3 -- "$folder/told")"
         return 1
@@ -153,7 +160,7 @@ take_mboxes() {
         make mbox "$first" "$number" "$file" "$folder/list" || return
         files+=("$file")
     done
-    done_in_the_end true printed_so_far $((10 * number * 80)) import --rules "$here/rules" --dated received ann "${files[@]}" && rm -- "${files[@]}" &&
+    done_in_the_end true printed_so_far $((10 * number * (${#file} + 45))) import --rules "$here/rules" --dated received ann "${files[@]}" && rm -- "${files[@]}" &&
         move_full_volumes
 }
 
@@ -189,9 +196,10 @@ say_what_was_met() {
     echo "drafts of a volume after a kill: $(wc -l < "$folder/drafts")"
 }
 
-# Says when something was done, and how often its commands were killed.
+# Says when something was done, and after how many minutes and seconds of the processor, as user and system, in all.
 say() {
-    echo "$(date -u +%T) $1"
+    times > "$folder/times"
+    echo "$(date -u +%T) $1 ($(tail -n 1 -- "$folder/times"))"
 }
 
 capture_all() {
@@ -206,13 +214,13 @@ capture_all() {
     done
 }
 
-# Whether a list is what the judge makes of the volumes.
+# Whether a list is what the judge makes of the volumes, and then whether as many records are counted.
 is_listed() {
     "$keeper" list --store "$here/archive" --csv "${@:2}" > "$folder/csv" && judge csv "$here/archive" ${1:+"$1"} | cmp - "$folder/csv"
 }
 
 counts_records() {
-    [[ $("$keeper" list --store "$here/archive" --count) -eq $(judge csv "$here/archive" | tail -n +2 | wc -l) ]]
+    (($("$keeper" list --store "$here/archive" --count) == $(wc -l < "$folder/csv") - 1))
 }
 
 is_captured() {
@@ -220,9 +228,9 @@ is_captured() {
         judge captured "$here/archive" "$folder/list" "$folder/twice" "$folder/printed" $((kills[import] + kills[intake])) "$folder/where"
 }
 
-# Places a hold on all records that some conditions choose.
+# Places a hold on all records that some conditions choose. It prints so many octets for a hundred messages.
 hold_all() {
-    done_in_the_end true printed_so_far $((count_of_all / 5)) hold --reason 'order 12/3' "$@"
+    done_in_the_end true printed_so_far $((count_of_all * $1 / 100)) hold --reason 'order 12/3' "${@:2}"
 }
 
 is_destroyed() {
@@ -257,12 +265,12 @@ million() {
     count "an archive is made" lay_archive
     capture_all
     count "the list of all records" is_listed ""
-    count "each message is captured once" is_captured
     count "the number of records" counts_records
+    count "each message is captured once" is_captured
     count "the list of what is due" is_listed "$BY" --due "$BY"
     say "listed"
-    count "a case is held by the subject" hold_all --where 'header :contains "subject" "smith"' smith-2026
-    count "a case is held by class and days" hold_all --class finance --since 2013-01-01 --until 2013-06-30 audit
+    count "a case is held by the subject" hold_all 30 --where 'header :contains "subject" "smith"' smith-2026
+    count "a case is held by class and days" hold_all 10 --class finance --since 2013-01-01 --until 2013-06-30 audit
     count "what is of a case is held" judge held "$here/archive" "$folder/where" "$folder/printed-hold" "${kills[hold]}"
     say "held, after ${kills[hold]} kills"
     count "what is due is destroyed" done_in_the_end true printed_so_far $((count_of_all * 11)) dispose --day "$BY" --yes

@@ -396,10 +396,11 @@ scripts() {
     count "an unknown word for ./test" gives_up 2 "^usage:" test --nothing
     count "an unknown word for ./test speed" gives_up 2 "^usage:" test speed --nothing
     count "a seed that is no number" gives_up 2 "^usage:" test hostile one
+    count "messages whose number is none" gives_up 2 "^usage:" test million one
     count "an unknown word for ./test failing" gives_up 2 "^usage:" test failing memory some
     count "an unknown word for ./install" gives_up 2 "^usage:" install --nothing
     count "transcripts in a whole checkout" types_in_a_checkout
-    for script in test scripts/failing.bash scripts/hostile.bash scripts/million.bash prove; do
+    for script in test scripts/failing.bash scripts/hostile.bash prove; do
         count "functions of $script" has_no_namesakes "$script"
     done
     if command -v shellcheck > "$work/said"; then
