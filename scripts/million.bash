@@ -160,8 +160,8 @@ take_mboxes() {
         make mbox "$first" "$number" "$file" "$folder/list" || return
         files+=("$file")
     done
-    done_in_the_end true printed_so_far $((10 * number * (${#file} + 45))) import --rules "$here/rules" --dated received ann "${files[@]}" && rm -- "${files[@]}" &&
-        move_full_volumes
+    done_in_the_end true printed_so_far $((10 * number * (${#file} + 45))) import --rules "$here/rules" --dated received ann "${files[@]}" &&
+        rm -- "${files[@]}" && move_full_volumes
 }
 
 # Notes the message that the next intake will capture a second time: the first in `new`, if it is the last one that was captured. The judge
@@ -191,8 +191,9 @@ take_maildir() {
 
 # What a kill met: how many came before the first line or the first octet of a copy, and how many while a volume was being begun.
 say_what_was_met() {
-    awk '{ times[$1] += 1; early[$1] += !$2 } END { for (name in times) print name ": " times[name] " kills, " early[name] " of them at its start" }' \
-        "$folder/shots" | sort
+    awk '
+        { times[$1] += 1; early[$1] += !$2 }
+        END { for (name in times) print name ": " times[name] " kills, " early[name] " of them at its start" }' "$folder/shots" | sort
     echo "drafts of a volume after a kill: $(wc -l < "$folder/drafts")"
 }
 
@@ -210,7 +211,7 @@ capture_all() {
     done
     for ((; first < count_of_all; first += count_of_all / 50)); do
         count "an intake from message $first on" take_maildir "$first"
-        say "taken in up to $((first + count_of_all / 50 - 1)), after ${kills[intake]} kills, $(wc -l < "$folder/twice") messages to be taken twice"
+        say "taken in up to $((first + count_of_all / 50 - 1)), after ${kills[intake]} kills; to be there twice: $(wc -l < "$folder/twice")"
     done
 }
 
@@ -234,8 +235,9 @@ hold_all() {
 }
 
 is_destroyed() {
-    "$keeper" certificates --store "$here/archive" > "$folder/certificates" &&
-        judge destroyed "$here/archive" "$folder/list" "$folder/where" "$BY" "$folder/printed-dispose" "${kills[dispose]}" "$folder/certificates"
+    "$keeper" certificates --store "$here/archive" > "$folder/certificates" || return
+    judge destroyed "$here/archive" "$folder/list" "$folder/where" "$BY" "$folder/printed-dispose" "${kills[dispose]}" \
+        "$folder/certificates"
 }
 
 # What a copy that was killed has left is told by the next one, which makes nothing. It is removed.

@@ -4,13 +4,18 @@
     scripts/million_judge.py captured FOLDER LIST TWICE PRINTED KILLS WHERE
         each message of LIST is captured once, in one volume, as the list has it; those in TWICE once more, and no other. What the program
         printed of records is so; at most one message for each kill was not printed. Writes to WHERE which message is in which record
-    scripts/million_judge.py held FOLDER WHERE                           the records of the two cases are held, each by one event, and no other
+    scripts/million_judge.py held FOLDER WHERE PRINTED KILLS
+        the records of the two cases are held, each by one event, and no other; at most one for each kill was not printed
     scripts/million_judge.py destroyed FOLDER LIST WHERE DAY PRINTED KILLS CERTIFICATES
         what is due and on no hold is destroyed, each by one event and with its certificate, and no other
-    scripts/million_judge.py copied FOLDER NEW                           both have the same rows, and the copy no octet of what was destroyed
-    scripts/million_judge.py csv FOLDER [DAY]                            prints what `list --csv` should print, of all or of what is due
-    scripts/million_judge.py totals FOLDER DAY                           prints the sums with which `check` should end
-    scripts/million_judge.py last FOLDER                                 prints the SHA-256 of the message that was captured last
+    scripts/million_judge.py copied FOLDER NEW
+        both have the same rows, and the files of the copy no Message-Id of a message that was destroyed
+    scripts/million_judge.py csv FOLDER [DAY]
+        prints what `list --csv` should print, of all or of what is due
+    scripts/million_judge.py totals FOLDER DAY
+        prints the sums with which `check` should end
+    scripts/million_judge.py last FOLDER
+        prints the SHA-256 of the message that was captured last, from copies of volumes
 
 What is wrong is printed, and then the status is 1.
 """
@@ -242,7 +247,10 @@ def held(folder, where, printed, kills):
     faults, places, rows = Faults(), places_of(where), collections.Counter()
     for number, volume in volumes_of(folder):
         wanted = [
-            f"{name} {record.number}" for record in records_of(volume) for name in CASES if is_of_case(name, record, places[number][record.message])
+            f"{name} {record.number}"
+            for record in records_of(volume)
+            for name in CASES
+            if is_of_case(name, record, places[number][record.message])
         ]
         holds = [f"{name} {record}" for name, record in volume.execute("SELECT name, record FROM hold")]
         faults.compare(f"hold in volume {number}", wanted, holds)
@@ -252,7 +260,9 @@ def held(folder, where, printed, kills):
     faults.end()
 
 
-CERTIFICATE = re.compile(r"destroyed record (\d+)/(\d+) class (\S+)( as due by \S+ \(7 years destroy\)| due \S+) octets (\d+) sha256 (\S+) at \S+(.*)")
+CERTIFICATE = re.compile(
+    r"destroyed record (\d+)/(\d+) class (\S+)( as due by \S+ \(7 years destroy\)| due \S+) octets (\d+) sha256 (\S+) at \S+(.*)"
+)
 
 
 def certified(faults, file):
@@ -273,7 +283,8 @@ def judge_destroyed(faults, number, volume, places, day):
     """Which records of a volume are destroyed, as they should be, with the number of the message and who keeps it."""
     records, holds = list(records_of(volume)), {record for (record,) in volume.execute("SELECT record FROM hold")}
     wanted = [record for record in records if record.path == "finance" and due_of(record) <= day and record.number not in holds]
-    faults.compare(f"destroyed in volume {number}", [record.number for record in wanted], [record.number for record in records if record.destroyed])
+    gone = [record.number for record in records if record.destroyed]
+    faults.compare(f"destroyed in volume {number}", [record.number for record in wanted], gone)
     deeds = [f"{record.number} as due by {day} (7 years destroy)" for record in wanted]
     faults.compare(f"event of a destruction in volume {number}", deeds, deeds_of(volume, "destroyed"))
     keepers = {record.message: f"{number}/{record.number}" for record in records if not record.destroyed}

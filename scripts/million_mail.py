@@ -61,8 +61,8 @@ def write_mbox(first, count, file, listed):
     with open(file, "wb") as mbox:
         for number in range(first, first + count):
             day, text = day_of(number), text_of(number)
-            separator = f"From sender{number % 1000}@sender.example {WEEKDAYS[day.weekday()]} {MONTHS[day.month - 1]} {day.day:2} 12:00:00 {day.year}\n"
-            mbox.write(separator.encode() + text + b"\n")
+            moment = f"{WEEKDAYS[day.weekday()]} {MONTHS[day.month - 1]} {day.day:2} 12:00:00 {day.year}"
+            mbox.write(f"From sender{number % 1000}@sender.example {moment}\n".encode() + text + b"\n")
             listed.write(noted(number, text, day))
 
 
