@@ -2,8 +2,8 @@
 # Fills an archive of volumes with a million messages, holds and destroys some, and copies it, while the program is killed over and over, at
 # random moments. A judge in Python, which reads the volumes by itself, says whether anything is lost or doubled.
 #
-#     ./test million            1,000,000 messages: half by imports of mboxes, half by intakes of a Maildir. It takes 8 GB of the disk, 1 GB
-#                               of memory, and hours
+#     ./test million            1,000,000 messages: half by imports of mboxes, half by intakes of a Maildir. It takes 7 GB of the disk, 1 GB
+#                               of memory, and an hour or more
 #     ./test million COUNT      that many, in hundreds, at least 1,000; below 100,000 in volumes of 1M in place of 32M
 #
 # SEED=NUMBER in the environment repeats the choices of a run; the moments of the kills also depend on the machine. Volumes are filled in
