@@ -396,6 +396,7 @@ scripts() {
     count "an unknown word for ./test" gives_up 2 "^usage:" test --nothing
     count "an unknown word for ./test speed" gives_up 2 "^usage:" test speed --nothing
     count "a seed that is no number" gives_up 2 "^usage:" test hostile one
+    count "messages whose number is none" gives_up 2 "^usage:" test million one
     count "an unknown word for ./test failing" gives_up 2 "^usage:" test failing memory some
     count "an unknown word for ./install" gives_up 2 "^usage:" install --nothing
     count "transcripts in a whole checkout" types_in_a_checkout
