@@ -18,7 +18,7 @@ use command_lines::archives::TypedNumbers;
 use record_choice::{Choice, Repository, Span, destroys};
 use record_store::{RecordEntry, StoreFault};
 use std::alloc::{AllocError, Global};
-use tool_texts::{Shown, put};
+use tool_texts::Shown;
 
 /// Why a record is passed over.
 #[derive(Clone, Copy)]
@@ -204,7 +204,9 @@ fn passed_words(
     ensures { IfOk result (λ text. text ≡ passed_words_of volume why.now numbers.now) }
 {
     let mut text = Shown::new(alloc);
-    put!(text; "passed over, " words(why) ":")?;
+    text.words("passed over, ")?;
+    text.words(why)?;
+    text.words(":")?;
     put_all(&mut text, volume, numbers)?;
     Ok(text)
 }
