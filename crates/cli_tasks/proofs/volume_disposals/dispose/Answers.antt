@@ -17,7 +17,7 @@ returns g c =
       none = c.in_ok-judge_disposed.ensures.none;
       within = c.in_ok-judge_disposed.ensures.within;
       day = day;
-      by = subst (λ (o : Option Date). IfSome o (λ t. day ≡ t)) typed.day c.in_ok-day.ensures;
+      by = subst (λ (o : Option Date). IfSome o (λ t. day ≡ t)) typed.day c.in_ok-day.ensures.typed;
       judged = λ yes. c.in_ok-judge_before.ensures (typed.destroys ∙ yes);
       each = c.in_ok-done.ensures;
     })
