@@ -170,7 +170,8 @@ fn part<R: Repository>(
         (λ a. map entry_view p.unread.items ≡
         filter (shows_answer a (is_missed questions.now)) (map entry_view entries.items))) }
     ensures headers { IfOk result (λ p. IsReadOf R.clean R.stands records.old records.new
-        (λ a. map texts_view p.headers.items ≡ texts_found a beside (map entry_view p.found.items))) }
+        (λ a. map texts_view p.headers.items
+        ≡ texts_found a beside (map entry_view p.found.items))) }
 {
     let mut parts = Parts {
         found: Vec::new(alloc),

@@ -151,8 +151,8 @@ ShowsAsTyped g WasThere typed = (typed.volume ≡ None) × Shows g WasThere type
 
 module _ {S : Type 0} (g : Ghosts S) (IsAt : (path : List ℕ) → Store S → Type 0) (path : List ℕ) (told : Attribution) where
   -- WHAT A COMMAND LINE MAKES of the archive at its path, where it changes records, holds or the plan, copies it, or reads the records of a
-  -- choice, a message, or what was captured twice. Where it reads something else of an archive, or sets something in its history, it is the one at its path. Nothing is said here of
-  -- the others.
+  -- choice, a message, or what was captured twice. Where it reads something else of an archive, or sets something in its history, it is the one
+  -- at its path. Nothing is said here of the others.
   abbrev pub Does : Command → Type 0
   Does (command.Chosen typed chosen) = DoesAsTyped g (IsAt path) told typed chosen
   Does (command.ReleaseAll name is_agreed) = IsDone (IsAt path) (λ before after.

@@ -16,6 +16,9 @@ pub returns-in_ok-day-in-Report : goal.returns-in_ok-day-in-Report
 returns-in_ok-day-in-Report g c =
     let it = c.args.self.now in
     on_ok_weaker c.write_report.result (λ reported.
-    subst (λ (way : Reading). ReadsBy g.S.Store c.args.archive.now c.write_report.new.archive.conn way it.choice it.questions) (sym c.in-Report.is)
-    (c.in_ok-day-in-Report.day, day_as_typed c.in-Report.day c.day_or_today.result c.in_ok-day-in-Report.day c.day_or_today.ensures c.in_ok-day-in-Report.was, reported))
+    subst (λ (way : Reading). ReadsBy g.S.Store c.args.archive.now c.write_report.new.archive.conn way it.choice it.questions) (sym c.in-Report.is) (
+      c.in_ok-day-in-Report.day,
+      day_as_typed c.in-Report.day c.day_or_today.result c.in_ok-day-in-Report.day c.day_or_today.ensures c.in_ok-day-in-Report.was,
+      reported,
+    ))
     c.write_report.ensures
