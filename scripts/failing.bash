@@ -7,7 +7,7 @@
 #     ./test failing files      what the built mailfile does with the file of its store
 #     ./test failing intake     intakes of mailfile-store that are killed, find a full disk, read-only folders or no store, and a large one
 #     ./test failing mail       mail through a Postfix of its own, and what waits in its queue; it takes the rights of root. Where there is
-#                          no Postfix, this alone installs it, from the system's packages
+#                               no Postfix, this alone installs it, from the system's packages
 #     ./test failing report     a report with hostile names, read by a browser where one is installed
 #     ./test failing volumes    archives of volumes that are killed, or find a full disk, at each call of the system; takes some minutes
 #     ./test failing memory     each allocation of sessions, of a delivery and of an intake, refused in turn; that takes a C compiler

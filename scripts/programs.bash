@@ -27,9 +27,9 @@ give_up() {
     exit 125
 }
 
-# Ends with what the comment at the head of the script says.
+# Ends with what the comment at the head of the script says, but for what it says to shellcheck.
 print_help() {
-    sed -n '2,/^[^#]/ s/^# \{0,1\}//p' "$0"
+    sed -n -e '/^# shellcheck /d' -e '2,/^[^#]/ s/^# \{0,1\}//p' "$0"
     exit
 }
 

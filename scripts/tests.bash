@@ -16,11 +16,13 @@ make_stage() {
     touch "$stage/tree/crates/"{mailfile,mailfile_tool}/src/main.rt "$stage/tree/trials/measures/src/main.rt.txt"
     touch "$stage/tree/man/"{mailfile,mailfile-tool}.1
     sed -i 's/^PROGRAMS=.*/PROGRAMS=(mailfile mailfile_tool)/' "$stage/tree/scripts/programs.bash"
+    sed -i 's/^readonly PROVER_MEMORY=.*/readonly PROVER_MEMORY=(1 1)/' "$stage/tree/scripts/build.bash"
 }
 
-# Makes the substitute for rt.
+# Makes the substitute for rt, and one for nproc: builds go side by side on a machine with one processor too.
 make_kit() {
     echo 'kit-1 logic 1' > "$stage/kit/KIT-ID"
+    printf '#!/bin/sh\necho 4\n' > "$stage/kit/bin/nproc"
     cat > "$stage/kit/bin/rt" <<'RT'
 #!/usr/bin/env bash
 # Builds libraries, and programs that print their arguments and end with status 7, as the files of the stage ask. A program answers
@@ -50,7 +52,7 @@ fi
 mkdir -p out/rlib
 touch out/rlib/stamp
 RT
-    chmod +x "$stage/kit/bin/rt"
+    chmod +x "$stage/kit/bin/"{rt,nproc}
 }
 
 # Starts a script of the stage with arguments, and keeps its output.
@@ -312,6 +314,7 @@ removes() {
     local status=$?
     mv -- "$stage/page" "$stage/tree/man/mailfile.1"
     sed -i 's/^PROGRAMS=.*/PROGRAMS=(mailfile mailfile_tool)/' "$stage/tree/scripts/programs.bash"
+    sed -i 's/^readonly PROVER_MEMORY=.*/readonly PROVER_MEMORY=(1 1)/' "$stage/tree/scripts/build.bash"
     return "$status"
 }
 
@@ -347,6 +350,15 @@ has_no_namesakes() {
     read -r -a parts < <(sed -n 's/^ *for part in \(.*\); do$/\1/p' "$1")
     ((${#parts[@]} > 1)) && parts+=(build programs trials) &&
         [[ -z $(cd -- scripts && grep -o -h -E '^[a-z_0-9]+\(\)' "${parts[@]/%/.bash}" | sort | uniq -d | tee -a /dev/stderr) ]]
+}
+
+# Whether each help has the words of its script, and none that are for shellcheck.
+helps_in_words() {
+    local words
+    for words in test "test hostile" "test failing" "test million" "test speed" prove; do
+        # shellcheck disable=SC2086 # a script and its word
+        start $words --help && grep -q -F "    ./$words " "$work/answer" && ! grep -q shellcheck "$work/answer" || return
+    done
 }
 
 # ---- all of these
@@ -393,6 +405,7 @@ scripts() {
     make_stage && make_kit
     builds_of_programs
     starts_from_dist
+    count "the help of each script" helps_in_words
     count "an unknown word for ./test" gives_up 2 "^usage:" test --nothing
     count "an unknown word for ./test speed" gives_up 2 "^usage:" test speed --nothing
     count "a seed that is no number" gives_up 2 "^usage:" test hostile one
