@@ -215,7 +215,7 @@ build() {
     done
     mapfile -t order < <(longest_first "$@")
     idle=$(side_by_side "${PROVER_MEMORY[@]}")
-    echo "$self: proving and building ${#order[@]} crates, which from nothing may take half an hour (provers at once: $idle)" >&2
+    echo "$self: proving and building ${#order[@]} crates, which from nothing may take hours (provers at once: $idle)" >&2
     while ((${#built[@]} < ${#order[@]})); do
         start_builders
         await_builders
