@@ -1,3 +1,5 @@
 mod DayLemmas
 mod MomentLemmas
+mod SessionLemmas
 mod SizeRows
+mod TableLemmas

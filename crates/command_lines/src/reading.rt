@@ -5,7 +5,7 @@ ghost use Rattle.clap.specs.Matches.{found_of};
 ghost use Rattle.command_lines.specs.Asked.{all_values_in, is_given, text_of, value_in};
 
 use crate::hints::{hint_on, stray_on};
-use crate::table::{Hint, Program, command_of};
+use crate::table::{Hint, Program, Values, command_of};
 use crate::wrapping::push_wrapped;
 use clap::error::ErrorKind;
 use clap::{ArgMatches, Command, Error};
@@ -179,7 +179,7 @@ fn refusal_of(
         return Ok(NoCommand::Wrong(text));
     }
     let shown = shown_words(alloc, words)?;
-    let command = command_of(alloc, program)?;
+    let command = command_of(alloc, program, Values::Signed)?;
     Ok(tell_refusal(rt, command, shown.as_slice()))
 }
 
@@ -190,7 +190,7 @@ pub(crate) fn read_words<'a>(
     program: &Program,
     words: &'a [String],
 ) -> Result<ArgMatches<'a>, NoCommand> {
-    match command_of(rt.alloc(), program)?.try_get_matches_from(words) {
+    match command_of(rt.alloc(), program, Values::Signed)?.try_get_matches_from(words) {
         Ok(matches) => Ok(matches),
         Err(error) => Err(refusal_of(rt, program, words, &error)?),
     }
