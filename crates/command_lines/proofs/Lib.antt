@@ -2,4 +2,5 @@ mod DayLemmas
 mod MomentLemmas
 mod SessionLemmas
 mod SizeRows
+mod StoreLemmas
 mod TableLemmas

@@ -5,6 +5,7 @@ mod words;
 
 use crate::days::day_of;
 use crate::reading::{NoCommand, has_flag, read_words, required, value_of, values_of};
+use crate::table::Values;
 use clap::ArgMatches;
 use jiff::civil::Date;
 use session_words::read_number;
@@ -292,7 +293,7 @@ fn command_asked<'a>(
 /// message that is not clear, are `Wrong`; help, and what `clap` refuses, are printed.
 pub fn read_command<'a>(rt: &HostRuntime, words: &'a [String]) -> Result<Command<'a>, NoCommand> {
     let alloc = rt.alloc();
-    let matches = read_words(rt, &words::program(alloc)?, words)?;
+    let matches = read_words(rt, &words::program(alloc)?, words, Values::Signed)?;
     match matches.subcommand() {
         Some((name, asked)) => command_asked(alloc, name, asked),
         None => Err(NoCommand::Unread),
