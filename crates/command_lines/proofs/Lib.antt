@@ -4,3 +4,5 @@ mod SessionLemmas
 mod SizeRows
 mod StoreLemmas
 mod TableLemmas
+mod TableRows
+mod ToolLemmas
