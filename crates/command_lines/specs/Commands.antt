@@ -3,13 +3,14 @@ use Rattle.std.specs.Prelude.{◌≡◌, ℕ, List, codes, Some, option_map}
 use Rattle.clap.specs.declared.parser.matches.Found.{Found}
 use Rattle.command_lines.specs.Asked.{is_given, value_in, values_in}
 use Rattle.clap.specs.Matches.{subcommand_name_of}
-use Rattle.clap.specs.Simple.{subcommand_rows_of}
+use Rattle.clap.specs.Simple.{subcommand_of, subcommand_rows_of}
 use Rattle.clap.specs.Walk.{rows_of}
 use Rattle.clap.specs.declared.parser.matches.ArgMatches.{ArgMatches}
 use Rattle.command_lines.specs.Captures.{IsDeliver, IsImport, IsIntake}
 use Rattle.command_lines.specs.Changes.{IsDispose, IsHolding, IsRefile, IsRelease}
 use Rattle.command_lines.specs.Numbers.{AreTyped}
 use Rattle.command_lines.specs.Readings.{IsExport, IsList, IsReport, IsShow, IsWhy}
+use Rattle.command_lines.specs.StoreTable.{store_app}
 use Rattle.command_lines.specs.Stores.{IsCheck, IsCopy, IsCreate, IsPlan, IsTitles}
 use Rattle.command_lines.specs.Tasks.{IsHistory, IsTold}
 use Rattle.command_lines.specs.declared.archives.Command.{Command}
@@ -64,3 +65,9 @@ IsLineOf matches line =
 -- WHAT IS READ: the command line of some words that `clap` found
 abbrev pub IsRead : CommandLine → Type 0
 IsRead line = (matches : ArgMatches) × IsLineOf matches line
+
+-- THE COMMAND LINE OF WORDS THAT ARE TYPED: of the subcommand that they name, with the words that stand after its name, as the words of
+-- `mailfile-store` have it
+abbrev pub IsReadOf : (words : List (List ℕ)) → CommandLine → Type 0
+IsReadOf words line =
+    (name : List ℕ) × (found : Found) × (subcommand_of store_app words ≡ Some (name, rows_of found)) × IsLine name found line

@@ -6,8 +6,11 @@ ghost use Rattle.choice_words.specs.Readings.{reads_as_numbers as reads_as_numbe
 ghost use Rattle.command_lines.specs.Asked.{value_in};
 ghost use Rattle.command_lines.specs.Captures.{IsDeliver};
 ghost use Rattle.command_lines.specs.Changes.{IsDisposal, IsDispose};
-ghost use Rattle.command_lines.specs.Commands.{IsCommand, IsLine, IsLineOf, IsRead};
+ghost use Rattle.command_lines.specs.Commands.{IsCommand, IsLine, IsLineOf, IsRead, IsReadOf};
 ghost use Rattle.command_lines.specs.Readings.{formats_in, one_format, sorting_typed, IsExport, IsList, IsListing, IsReport, IsShow, IsTarget, IsWhyOf};
+ghost use Rattle.command_lines.specs.StoreTable.{may_be_hyphened};
+ghost use Rattle.command_lines.specs.Typed.{typed};
+ghost use Rattle.command_lines.specs.declared.table.Values.TheVariants.{Plain};
 ghost use Rattle.command_lines.specs.Stores.{IsCheck, IsCopy, IsCreate, IsPlan, IsTitles};
 
 mod approvals;
@@ -28,7 +31,10 @@ mod refilings;
 mod sizes;
 mod words;
 
-use crate::reading::{NoCommand, has_flag, read_words, required, value_of};
+use crate::reading::{
+    NoCommand, has_flag, has_hyphened_after, has_signed, read_words, required, value_of,
+};
+use crate::table::Values;
 use approvals::approved_asked;
 pub use approvals::{DisposalAsked, TypedDisposal};
 use captures::{filing_asked, intake_asked};
@@ -627,16 +633,29 @@ fn with_forgotten(alloc: Global, words: &[String], refusal: NoCommand) -> NoComm
     }
 }
 
+/// Which words can be values: one with a hyphen at its beginning only where that is a number, or the name after `--by`.
+fn values_typed(words: &[String]) -> Values
+    ensures { may_be_hyphened (typed words.now) ≡ false → result ≡ Plain }
+{
+    if has_signed(words) || has_hyphened_after(words, "--by") {
+        Values::Signed
+    } else {
+        Values::Plain
+    }
+}
+
 /// Reads the words of a command line, the program's name first. A value that its option or place cannot have is
 /// `Wrong`; help, and what `clap` refuses, are printed.
 pub fn read_command_line<'a>(
     rt: &HostRuntime,
     words: &'a [String],
 ) -> Result<CommandLine<'a>, NoCommand>
-    ensures { IfOk result IsRead }
+    ensures read { IfOk result IsRead }
+    ensures typed { may_be_hyphened (typed words.now) ≡ false
+        → IfOk result (IsReadOf (typed words.now)) }
 {
     let alloc = rt.alloc();
-    match read_words(rt, &words::program(alloc)?, words) {
+    match read_words(rt, &words::program(alloc)?, words, values_typed(words)) {
         Ok(matches) => read_matches(alloc, &matches),
         Err(refusal) => Err(with_forgotten(alloc, words, refusal)),
     }

@@ -2,10 +2,14 @@
 
 ghost use Rattle.std.specs.Prelude.{◌≡◌, IfOk, Some, map, option_map};
 ghost use Rattle.clap.specs.Matches.{found_of};
+ghost use Rattle.clap.specs.Simple.{HasMatchesOf};
+ghost use Rattle.command_lines.specs.Tables.{app_of_table};
+ghost use Rattle.command_lines.specs.Typed.{has_hyphened_after as has_hyphened_word_after, has_signed as has_signed_word, is_hyphened as is_hyphened_word, is_signed as is_signed_word, typed};
+ghost use Rattle.command_lines.specs.declared.table.Values.TheVariants.{Plain};
 ghost use Rattle.command_lines.specs.Asked.{all_values_in, is_given, text_of, value_in};
 
 use crate::hints::{hint_on, stray_on};
-use crate::table::{Hint, Program, command_of};
+use crate::table::{Hint, Program, Values, command_of};
 use crate::wrapping::push_wrapped;
 use clap::error::ErrorKind;
 use clap::{ArgMatches, Command, Error};
@@ -179,8 +183,48 @@ fn refusal_of(
         return Ok(NoCommand::Wrong(text));
     }
     let shown = shown_words(alloc, words)?;
-    let command = command_of(alloc, program)?;
+    let command = command_of(alloc, program, Values::Signed)?;
     Ok(tell_refusal(rt, command, shown.as_slice()))
+}
+
+/// Whether a word begins as a number with a sign does.
+fn is_signed(word: &[u8]) -> bool
+    ensures { result ≡ is_signed_word word.now }
+{
+    word.len() > 1 && word[0] == b'-' && word[1] >= b'0' && word[1] <= b'9'
+}
+
+/// Whether a word begins with a hyphen.
+fn is_hyphened(word: &[u8]) -> bool
+    ensures { result ≡ is_hyphened_word word.now }
+{
+    !word.is_empty() && word[0] == b'-'
+}
+
+/// Whether a number with a sign is typed.
+pub(crate) fn has_signed(words: &[String]) -> bool
+    ensures { result ≡ has_signed_word (typed words.now) }
+{
+    for word in words {
+        if is_signed(word.as_bytes()) {
+            return true;
+        }
+    }
+    false
+}
+
+/// Whether a word with a hyphen at its beginning stands right after this one.
+pub(crate) fn has_hyphened_after(words: &[String], before: &str) -> bool
+    ensures { result ≡ has_hyphened_word_after before.now (typed words.now) }
+{
+    let mut is_after = false;
+    for word in words {
+        if is_after && is_hyphened(word.as_bytes()) {
+            return true;
+        }
+        is_after = word.as_str() == before;
+    }
+    false
 }
 
 /// Reads words by the table of a program. Where they are none of its, and the program has no hint on them, what `clap` reports
@@ -189,8 +233,12 @@ pub(crate) fn read_words<'a>(
     rt: &HostRuntime,
     program: &Program,
     words: &'a [String],
-) -> Result<ArgMatches<'a>, NoCommand> {
-    match command_of(rt.alloc(), program)?.try_get_matches_from(words) {
+    values: Values,
+) -> Result<ArgMatches<'a>, NoCommand>
+    ensures { values ≡ Plain
+        → IfOk result (HasMatchesOf (app_of_table program.now) (typed words.now)) }
+{
+    match command_of(rt.alloc(), program, values)?.try_get_matches_from(words) {
         Ok(matches) => Ok(matches),
         Err(error) => Err(refusal_of(rt, program, words, &error)?),
     }

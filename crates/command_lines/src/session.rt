@@ -1,7 +1,14 @@
 //! The command line of `mailfile`, the program of sessions.
 
+ghost use Rattle.std.specs.Prelude.{◌≡◌, codes, IfOk, option_map, string_bytes};
+ghost use Rattle.clap.specs.Matches.{found_of};
+ghost use Rattle.clap.specs.Simple.{app_of};
+ghost use Rattle.command_lines.specs.Asked.{value_in};
+ghost use Rattle.command_lines.specs.SessionTable.{session_app, IsSession};
+ghost use Rattle.command_lines.specs.Typed.{typed};
+
 use crate::reading::{NoCommand, shown_words, tell_refusal, value_of, words_of_process};
-use crate::table::{OPTION, Word, arguments_of, bare_command};
+use crate::table::{OPTION, Values, Word, arguments_of, bare_command};
 use clap::{ArgMatches, Command};
 use std::alloc::{AllocError, Global};
 use std::process::ExitCode;
@@ -28,8 +35,10 @@ pub struct CommandLine {
 }
 
 /// The command line as `clap` is to parse it.
-fn command<'a>(alloc: Global) -> Result<Command<'a>, AllocError> {
-    let arguments = arguments_of(alloc, WORDS, &[])?;
+fn command<'a>(alloc: Global) -> Result<Command<'a>, AllocError>
+    ensures { IfOk result (λ r. app_of r ≡ session_app) }
+{
+    let arguments = arguments_of(alloc, WORDS, &[], Values::Plain)?;
     bare_command(
         alloc,
         "mailfile",
@@ -39,7 +48,10 @@ fn command<'a>(alloc: Global) -> Result<Command<'a>, AllocError> {
 }
 
 /// The options that were found.
-fn options_in(alloc: Global, matches: &ArgMatches<'_>) -> Result<CommandLine, NoCommand> {
+fn options_in(alloc: Global, matches: &ArgMatches<'_>) -> Result<CommandLine, NoCommand>
+    ensures { IfOk result (λ line. option_map string_bytes line.store
+        ≡ value_in (found_of matches.now) (codes "store")) }
+{
     let store = match value_of(matches, STORE) {
         Some(path) => Some(String::from_str(alloc, path)?),
         None => None,
@@ -53,7 +65,9 @@ fn read_words(
     rt: &HostRuntime,
     words: &[String],
     shown: &[String],
-) -> Result<CommandLine, NoCommand> {
+) -> Result<CommandLine, NoCommand>
+    ensures { IfOk result (IsSession (typed words.now)) }
+{
     let alloc = rt.alloc();
     if let Ok(matches) = command(alloc)?.try_get_matches_from(words) {
         return options_in(alloc, &matches);

@@ -3,6 +3,12 @@
 //! `clap` makes and drops many values for each argument that is added, so it is called by a few functions here, once for
 //! all programs, each of which has a table.
 
+ghost use Rattle.std.specs.Prelude.{◌≡◌, ◌++◌, [], IfOk, map, OnOk};
+ghost use Rattle.clap.specs.Simple.{app_of, shape_of};
+ghost use Rattle.clap.specs.Walk.{rule_of};
+ghost use Rattle.command_lines.specs.declared.table.Values.TheVariants.{Plain};
+ghost use Rattle.command_lines.specs.Tables.{action_by, app_alone, app_of_table, argument_of_word, described_in, formed as formed_as, shape_of_table, shared_by, with_conflict, with_need};
+
 use clap::{Arg, ArgAction, Command};
 use std::alloc::{AllocError, Global};
 
@@ -127,25 +133,33 @@ pub struct Program {
     pub strays: &'static [Stray],
 }
 
-/// An argument in the form of a word. A number with a sign is a value too, so that its own reason refuses it.
-fn formed<'a>(argument: Arg<'a>, word: &Word) -> Arg<'a> {
+/// Which words can be values.
+#[derive(Clone, Copy)]
+pub enum Values {
+    /// Those that do not begin with a hyphen.
+    Plain,
+    /// A number with a sign too, which its own reason refuses, and what follows an option that takes hyphens.
+    Signed,
+}
+
+/// An argument in the form of a word.
+fn formed<'a>(alloc: Global, word: &Word) -> Arg<'a>
+    ensures { rule_of result ≡ formed_as word.now.form word.now.name.now }
+{
+    let argument = Arg::new(alloc, word.name).action(action_of(word.form));
     match word.form {
-        Form::Place => argument.value_name(word.value).allow_negative_numbers(true),
-        Form::Places => argument
-            .value_name(word.value)
-            .allow_negative_numbers(true)
-            .num_args(1..),
-        Form::Option => argument
-            .value_name(word.value)
-            .long(word.name)
-            .allow_hyphen_values(word.takes_hyphens),
+        Form::Place => argument.value_name(word.value),
+        Form::Places => argument.value_name(word.value).num_args(1..),
+        Form::Option => argument.value_name(word.value).long(word.name),
         Form::Letter(letter) => argument.value_name(word.value).short(letter),
         Form::Flag => argument.long(word.name),
     }
 }
 
 /// What is done with each value of a word.
-fn action_of(form: Form) -> ArgAction {
+fn action_of(form: Form) -> ArgAction
+    ensures { result ≡ action_by form }
+{
     match form {
         Form::Place | Form::Option | Form::Letter(_) => ArgAction::Set,
         Form::Places => ArgAction::Append,
@@ -154,7 +168,9 @@ fn action_of(form: Form) -> ArgAction {
 }
 
 /// An argument with what is told of a word.
-fn helped<'a>(argument: Arg<'a>, word: &Word) -> Arg<'a> {
+fn helped<'a>(argument: Arg<'a>, word: &Word) -> Arg<'a>
+    ensures { rule_of result ≡ rule_of argument.entry }
+{
     match word.help {
         Some(help) => argument.help(help),
         None => argument,
@@ -162,20 +178,51 @@ fn helped<'a>(argument: Arg<'a>, word: &Word) -> Arg<'a> {
 }
 
 /// An argument that has to be given where a word has to be.
-fn needed<'a>(argument: Arg<'a>, word: &Word) -> Result<Arg<'a>, AllocError> {
+fn needed<'a>(argument: Arg<'a>, word: &Word) -> Result<Arg<'a>, AllocError>
+    ensures { IfOk result (λ r.
+        rule_of r ≡ with_need word.now.substitute word.now.is_required (rule_of argument.entry)) }
+{
     match word.substitute {
         Some(name) => argument.required_unless_present(name),
         None => Ok(argument.required(word.is_required)),
     }
 }
 
-/// The argument that a word is.
-fn argument_of<'a>(alloc: Global, word: &Word) -> Result<Arg<'a>, AllocError> {
-    let argument = Arg::new(alloc, word.name).action(action_of(word.form));
-    let argument = helped(formed(needed(argument, word)?, word), word);
+/// An argument beside which the word may not stand that a word excludes.
+fn excluding<'a>(argument: Arg<'a>, word: &Word) -> Result<Arg<'a>, AllocError>
+    ensures { IfOk result (λ r.
+        rule_of r ≡ with_conflict word.now.conflict (rule_of argument.entry)) }
+{
     match word.conflict {
         Some(name) => argument.conflicts_with(name),
         None => Ok(argument),
+    }
+}
+
+/// The argument that a word is.
+fn argument_of<'a>(alloc: Global, word: &Word) -> Result<Arg<'a>, AllocError>
+    ensures { IfOk result (λ r. rule_of r ≡ argument_of_word word.now) }
+{
+    let argument = needed(formed(alloc, word), word)?;
+    excluding(helped(argument, word), word)
+}
+
+/// An argument that takes a word as its value which begins with a hyphen, where its own word does.
+fn signed<'a>(argument: Arg<'a>, word: &Word) -> Arg<'a> {
+    match word.form {
+        Form::Place | Form::Places => argument.allow_negative_numbers(true),
+        Form::Option => argument.allow_hyphen_values(word.takes_hyphens),
+        Form::Letter(_) | Form::Flag => argument,
+    }
+}
+
+/// An argument that takes these values.
+fn taking<'a>(argument: Arg<'a>, word: &Word, values: Values) -> Arg<'a>
+    ensures { values ≡ Plain → result ≡ argument.entry }
+{
+    match values {
+        Values::Plain => argument,
+        Values::Signed => signed(argument, word),
     }
 }
 
@@ -184,9 +231,15 @@ fn add_arguments<'a>(
     alloc: Global,
     arguments: &mut Vec<Arg<'a>>,
     words: &[Word],
-) -> Result<(), AllocError> {
+    values: Values,
+) -> Result<(), AllocError>
+    ensures { values ≡ Plain
+        → OnOk result (map rule_of arguments.new.items
+        ≡ map rule_of arguments.old.items ++ map argument_of_word words.now) }
+{
     for word in words {
-        arguments.push(argument_of(alloc, word)?)?;
+        let argument = argument_of(alloc, word)?;
+        arguments.push(taking(argument, word, values))?;
     }
     Ok(())
 }
@@ -196,11 +249,23 @@ pub fn arguments_of<'a>(
     alloc: Global,
     words: &[Word],
     shared: &[Word],
-) -> Result<Vec<Arg<'a>>, AllocError> {
+    values: Values,
+) -> Result<Vec<Arg<'a>>, AllocError>
+    ensures { values ≡ Plain
+        → IfOk result (λ r.
+        map rule_of r.items ≡ map argument_of_word (words.now ++ shared.now)) }
+{
     let mut arguments = Vec::new(alloc);
-    add_arguments(alloc, &mut arguments, words)?;
-    add_arguments(alloc, &mut arguments, shared)?;
+    add_arguments(alloc, &mut arguments, words, values)?;
+    add_arguments(alloc, &mut arguments, shared, values)?;
     Ok(arguments)
+}
+
+/// The words that a subcommand shares with others, if it does.
+fn shared_by<'w>(described: &Subcommand, shared: &'w [Word]) -> &'w [Word]
+    ensures { result.now ≡ shared_by described.now.has_shared shared.now }
+{
+    if described.has_shared { shared } else { &[] }
 }
 
 /// A subcommand with its words.
@@ -208,9 +273,13 @@ fn subcommand_of<'a>(
     alloc: Global,
     described: &Subcommand,
     shared: &[Word],
-) -> Result<Command<'a>, AllocError> {
-    let shared = if described.has_shared { shared } else { &[] };
-    let arguments = arguments_of(alloc, described.words, shared)?;
+    values: Values,
+) -> Result<Command<'a>, AllocError>
+    ensures { values ≡ Plain
+        → IfOk result (λ r. shape_of r ≡ shape_of_table shared.now described.now) }
+{
+    let shared = shared_by(described, shared);
+    let arguments = arguments_of(alloc, described.words, shared, values)?;
     Command::new(alloc, described.name)
         .about(described.about)
         .after_help(described.example)
@@ -223,18 +292,31 @@ fn add_subcommands<'a>(
     subcommands: &mut Vec<Command<'a>>,
     group: &[Subcommand],
     shared: &[Word],
-) -> Result<(), AllocError> {
+    values: Values,
+) -> Result<(), AllocError>
+    ensures { values ≡ Plain
+        → OnOk result (map shape_of subcommands.new.items
+        ≡ map shape_of subcommands.old.items ++ map (shape_of_table shared.now) group.now) }
+{
     for described in group {
-        subcommands.push(subcommand_of(alloc, described, shared)?)?;
+        subcommands.push(subcommand_of(alloc, described, shared, values)?)?;
     }
     Ok(())
 }
 
 /// The subcommands of a program.
-fn subcommands_of<'a>(alloc: Global, program: &Program) -> Result<Vec<Command<'a>>, AllocError> {
+fn subcommands_of<'a>(
+    alloc: Global,
+    program: &Program,
+    values: Values,
+) -> Result<Vec<Command<'a>>, AllocError>
+    ensures { values ≡ Plain
+        → IfOk result (λ r. map shape_of r.items
+        ≡ map (shape_of_table program.now.shared.now) (described_in program.now)) }
+{
     let mut subcommands = Vec::new(alloc);
     for group in &program.groups {
-        add_subcommands(alloc, &mut subcommands, *group, program.shared)?;
+        add_subcommands(alloc, &mut subcommands, *group, program.shared, values)?;
     }
     Ok(subcommands)
 }
@@ -244,16 +326,24 @@ pub fn bare_command<'a>(
     alloc: Global,
     name: &'a str,
     about: &'a str,
-) -> Result<Command<'a>, AllocError> {
+) -> Result<Command<'a>, AllocError>
+    ensures { IfOk result (λ r. app_of r ≡ app_alone name.now []) }
+{
     Command::new(alloc, name)
         .version(VERSION)
         .about(about)
         .bin_name(name)
 }
 
-/// The whole command line of a program. The only error is out of memory.
-pub fn command_of<'a>(alloc: Global, program: &Program) -> Result<Command<'a>, AllocError> {
-    let subcommands = subcommands_of(alloc, program)?;
+/// The whole command line of a program, with arguments that take these values. The only error is out of memory.
+pub fn command_of<'a>(
+    alloc: Global,
+    program: &Program,
+    values: Values,
+) -> Result<Command<'a>, AllocError>
+    ensures { values ≡ Plain → IfOk result (λ r. app_of r ≡ app_of_table program.now) }
+{
+    let subcommands = subcommands_of(alloc, program, values)?;
     bare_command(alloc, program.name, program.about)?
         .subcommand_required(true)
         .subcommands(subcommands)

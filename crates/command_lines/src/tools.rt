@@ -1,10 +1,18 @@
 //! The command line of `mailfile-tool`: what it asks for, with each value read and judged.
 
+ghost use Rattle.std.specs.Prelude.{◌≡◌, false, IfOk};
+ghost use Rattle.clap.specs.Matches.{found_of};
+ghost use Rattle.session_words.specs.Words.{number_up_to};
+ghost use Rattle.command_lines.specs.Tools.{format_in, AreFolders, AreRules, IsAsked, IsCaptureDay, IsChecked, IsCommand, IsCompile, IsExplained, IsFound, IsPlace, IsRecipients, IsToolRead};
+ghost use Rattle.command_lines.specs.Typed.{has_signed as has_signed_word, typed};
+ghost use Rattle.command_lines.specs.declared.table.Values.TheVariants.{Plain};
+
 mod names;
 mod words;
 
 use crate::days::day_of;
-use crate::reading::{NoCommand, has_flag, read_words, required, value_of, values_of};
+use crate::reading::{NoCommand, has_flag, has_signed, read_words, required, value_of, values_of};
+use crate::table::Values;
 use clap::ArgMatches;
 use jiff::civil::Date;
 use session_words::read_number;
@@ -137,7 +145,9 @@ pub enum Format {
 }
 
 /// The folders of the scripts that can be included.
-fn folders_asked<'a>(asked: &ArgMatches<'a>) -> Folders<'a> {
+fn folders_asked<'a>(asked: &ArgMatches<'a>) -> Folders<'a>
+    ensures { AreFolders (found_of asked.now) result }
+{
     Folders {
         personal: value_of(asked, names::PERSONAL),
         global: value_of(asked, names::GLOBAL),
@@ -145,7 +155,9 @@ fn folders_asked<'a>(asked: &ArgMatches<'a>) -> Folders<'a> {
 }
 
 /// Where scripts are.
-fn place_asked<'a>(asked: &ArgMatches<'a>) -> Place<'a> {
+fn place_asked<'a>(asked: &ArgMatches<'a>) -> Place<'a>
+    ensures { IsPlace (found_of asked.now) result }
+{
     match value_of(asked, names::RULES) {
         Some(folder) => Place::Rules(folder),
         None => Place::Folders(folders_asked(asked)),
@@ -153,13 +165,19 @@ fn place_asked<'a>(asked: &ArgMatches<'a>) -> Place<'a> {
 }
 
 /// The number that is typed, in decimal digits without a leading zero.
-fn number_of(word: &str) -> Option<u8> {
-    let number = read_number(word.as_bytes(), u64::from(u8::MAX))?;
-    u8::try_from(number).ok()
+fn number_of(word: &str) -> Option<u8>
+    ensures { result ≡ number_up_to 255 word.now }
+{
+    match read_number(word.as_bytes(), u64::from(u8::MAX)) {
+        Some(number) => Some(number as u8),
+        None => None,
+    }
 }
 
 /// What is explained: all numbers rather than one, and one rather than replies.
-fn explain_asked<'a>(asked: &ArgMatches<'a>) -> Explain<'a> {
+fn explain_asked<'a>(asked: &ArgMatches<'a>) -> Explain<'a>
+    ensures { IsExplained (found_of asked.now) result }
+{
     if has_flag(asked, names::NUMBERS) {
         return Explain::Numbers;
     }
@@ -175,7 +193,9 @@ fn explain_asked<'a>(asked: &ArgMatches<'a>) -> Explain<'a> {
 }
 
 /// What is judged. Files have to be named; officers of a folder of all rules may be missing.
-fn check_asked<'a>(alloc: Global, asked: &ArgMatches<'a>) -> Result<Check<'a>, NoCommand> {
+fn check_asked<'a>(alloc: Global, asked: &ArgMatches<'a>) -> Result<Check<'a>, NoCommand>
+    ensures { IfOk result (IsChecked (found_of asked.now)) }
+{
     let files = values_of(asked, names::FILES).unwrap_or(&[]);
     let place = place_asked(asked);
     if let (Place::Folders(_), true) = (place, files.is_empty()) {
@@ -192,7 +212,9 @@ fn check_asked<'a>(alloc: Global, asked: &ArgMatches<'a>) -> Result<Check<'a>, N
 }
 
 /// The script whose image is written, and where.
-fn compile_asked<'a>(asked: &ArgMatches<'a>) -> Result<Command<'a>, NoCommand> {
+fn compile_asked<'a>(asked: &ArgMatches<'a>) -> Result<Command<'a>, NoCommand>
+    ensures { IfOk result (IsCompile (found_of asked.now)) }
+{
     Ok(Command::Compile {
         script: required(asked, names::SCRIPT)?,
         place: place_asked(asked),
@@ -201,7 +223,9 @@ fn compile_asked<'a>(asked: &ArgMatches<'a>) -> Result<Command<'a>, NoCommand> {
 }
 
 /// The folder of all rules whose officers are recipients, and their domains.
-fn recipients_asked<'a>(alloc: Global, asked: &ArgMatches<'a>) -> Result<Command<'a>, NoCommand> {
+fn recipients_asked<'a>(alloc: Global, asked: &ArgMatches<'a>) -> Result<Command<'a>, NoCommand>
+    ensures { IfOk result (IsRecipients (found_of asked.now)) }
+{
     let domains = values_of(asked, names::DOMAINS).unwrap_or(&[]);
     Ok(Command::Recipients {
         rules: required(asked, names::RULES)?,
@@ -210,7 +234,9 @@ fn recipients_asked<'a>(alloc: Global, asked: &ArgMatches<'a>) -> Result<Command
 }
 
 /// The day of a capture, where it is given.
-fn day_asked(alloc: Global, asked: &ArgMatches<'_>) -> Result<Option<Date>, NoCommand> {
+fn day_asked(alloc: Global, asked: &ArgMatches<'_>) -> Result<Option<Date>, NoCommand>
+    ensures { IfOk result (IsCaptureDay (found_of asked.now)) }
+{
     let Some(text) = value_of(asked, names::DAY) else {
         return Ok(None);
     };
@@ -221,7 +247,9 @@ fn day_asked(alloc: Global, asked: &ArgMatches<'_>) -> Result<Option<Date>, NoCo
 }
 
 /// How it is said why a script files a message: by its steps rather than as JSON.
-fn format_asked(asked: &ArgMatches<'_>) -> Format {
+fn format_asked(asked: &ArgMatches<'_>) -> Format
+    ensures { result ≡ format_in (found_of asked.now) }
+{
     if has_flag(asked, names::STEPS) {
         Format::Steps
     } else if has_flag(asked, names::JSON) {
@@ -232,10 +260,9 @@ fn format_asked(asked: &ArgMatches<'_>) -> Format {
 }
 
 /// What files the message, and the path of the message: the only path where an image is named, and otherwise the second.
-fn rules_asked<'a>(
-    alloc: Global,
-    asked: &ArgMatches<'a>,
-) -> Result<(Rules<'a>, &'a str), NoCommand> {
+fn rules_asked<'a>(alloc: Global, asked: &ArgMatches<'a>) -> Result<(Rules<'a>, &'a str), NoCommand>
+    ensures { IfOk result (λ r. AreRules (found_of asked.now) r.1.now r.0) }
+{
     let first = required(asked, names::SCRIPT)?;
     match (value_of(asked, names::RUN), value_of(asked, names::MESSAGE)) {
         (Some(image), None) => Ok((Rules::Image(image), first)),
@@ -255,7 +282,9 @@ fn rules_asked<'a>(
 }
 
 /// What is asked about a message.
-fn why_asked<'a>(alloc: Global, asked: &ArgMatches<'a>) -> Result<Why<'a>, NoCommand> {
+fn why_asked<'a>(alloc: Global, asked: &ArgMatches<'a>) -> Result<Why<'a>, NoCommand>
+    ensures { IfOk result (IsAsked (found_of asked.now)) }
+{
     let day = day_asked(alloc, asked)?;
     let (by, message) = rules_asked(alloc, asked)?;
     Ok(Why {
@@ -271,7 +300,9 @@ fn command_asked<'a>(
     alloc: Global,
     name: &str,
     asked: &ArgMatches<'a>,
-) -> Result<Command<'a>, NoCommand> {
+) -> Result<Command<'a>, NoCommand>
+    ensures { IfOk result (IsCommand name.now (found_of asked.now)) }
+{
     match name {
         "frame" => Ok(Command::Frame {
             file: value_of(asked, names::COMMANDS),
@@ -288,13 +319,34 @@ fn command_asked<'a>(
     }
 }
 
-/// Reads the words of a command line, the program's name first. A day that is not in the calendar of captures, and a
-/// message that is not clear, are `Wrong`; help, and what `clap` refuses, are printed.
-pub fn read_command<'a>(rt: &HostRuntime, words: &'a [String]) -> Result<Command<'a>, NoCommand> {
-    let alloc = rt.alloc();
-    let matches = read_words(rt, &words::program(alloc)?, words)?;
+/// What the words that were found ask for.
+fn read_matches<'a>(alloc: Global, matches: &ArgMatches<'a>) -> Result<Command<'a>, NoCommand>
+    ensures { IfOk result (IsFound matches.now) }
+{
     match matches.subcommand() {
         Some((name, asked)) => command_asked(alloc, name, asked),
         None => Err(NoCommand::Unread),
     }
+}
+
+/// Which words can be values: one with a hyphen at its beginning only where that is a number.
+fn values_typed(words: &[String]) -> Values
+    ensures { has_signed_word (typed words.now) ≡ false → result ≡ Plain }
+{
+    if has_signed(words) {
+        Values::Signed
+    } else {
+        Values::Plain
+    }
+}
+
+/// Reads the words of a command line, the program's name first. A day that is not in the calendar of captures, and a
+/// message that is not clear, are `Wrong`; help, and what `clap` refuses, are printed.
+pub fn read_command<'a>(rt: &HostRuntime, words: &'a [String]) -> Result<Command<'a>, NoCommand>
+    ensures { has_signed_word (typed words.now) ≡ false
+        → IfOk result (IsToolRead (typed words.now)) }
+{
+    let alloc = rt.alloc();
+    let matches = read_words(rt, &words::program(alloc)?, words, values_typed(words))?;
+    read_matches(alloc, &matches)
 }

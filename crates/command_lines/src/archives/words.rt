@@ -1,5 +1,10 @@
 //! The subcommands of `mailfile-store`, each with its words and an example.
 
+ghost use Rattle.std.specs.Prelude.{◌≡◌, IfOk, List, map};
+ghost use Rattle.command_lines.specs.StoreTable.{capturing as capturing_shapes, conditions as condition_arguments, judging as judging_shapes, keeping as keeping_shapes, reading as reading_shapes, store_app, telling as telling_shapes};
+ghost use Rattle.command_lines.specs.Tables.{app_of_table, argument_of_word, shape_of_table};
+ghost use Rattle.command_lines.specs.declared.table.Word.{Word as TheWord};
+
 use super::approvals::{APPROVED, STRAYS};
 use super::capture_words::{AT, LIMIT, MAILDIR, OFFICER, QUIET, RULES, TIMES, UNFILED_ON_FAULT};
 use super::class_words::{NEW_TITLES, TO};
@@ -505,32 +510,48 @@ const KEEPING: &[Subcommand] = &[HOLD, RELEASE, REFILE, DISPOSE, REPORT];
 /// Those that tell what was done, what is held, and what classes are called.
 const TELLING: &[Subcommand] = &[HOLDS, TITLES, HISTORY, CERTIFICATES];
 
-fn telling() -> &'static [Subcommand] {
+fn telling() -> &'static [Subcommand]
+    ensures { (shared : List TheWord) → map (shape_of_table shared) result.now ≡ telling_shapes }
+{
     TELLING
 }
 
-fn capturing() -> &'static [Subcommand] {
+fn capturing() -> &'static [Subcommand]
+    ensures { (shared : List TheWord) → map (shape_of_table shared) result.now ≡ capturing_shapes }
+{
     CAPTURING
 }
 
-fn reading() -> &'static [Subcommand] {
+fn reading() -> &'static [Subcommand]
+    ensures { (shared : List TheWord) → map (shape_of_table shared) result.now
+        ≡ reading_shapes (map argument_of_word shared) }
+{
     READING
 }
 
-fn judging() -> &'static [Subcommand] {
+fn judging() -> &'static [Subcommand]
+    ensures { (shared : List TheWord) → map (shape_of_table shared) result.now ≡ judging_shapes }
+{
     JUDGING
 }
 
-fn keeping() -> &'static [Subcommand] {
+fn keeping() -> &'static [Subcommand]
+    ensures { (shared : List TheWord) → map (shape_of_table shared) result.now
+        ≡ keeping_shapes (map argument_of_word shared) }
+{
     KEEPING
 }
 
-fn conditions() -> &'static [Word] {
+fn conditions() -> &'static [Word]
+    ensures { map argument_of_word result.now ≡ condition_arguments }
+{
     CONDITIONS
 }
 
 /// The whole command line, with all subcommands.
-pub fn program(alloc: Global) -> Result<Program, AllocError> {
+pub fn program(alloc: Global) -> Result<Program, AllocError>
+    ensures { IfOk result (λ p. app_of_table p ≡ store_app) }
+{
     Ok(Program {
         name: "mailfile-store",
         about: "Runs an archive of e-mail in a file: captures, lists, shows, exports, holds and destroys records",

@@ -1,5 +1,10 @@
 //! The subcommands of `mailfile-tool`, each with its words and an example.
 
+ghost use Rattle.std.specs.Prelude.{◌≡◌, IfOk, List, map};
+ghost use Rattle.command_lines.specs.Tables.{app_of_table, shape_of_table};
+ghost use Rattle.command_lines.specs.ToolTable.{tool_app, tools};
+ghost use Rattle.command_lines.specs.declared.table.Word.{Word as TheWord};
+
 use super::names;
 use crate::table::{FLAG, Form, OPTION, PLACE, Program, Subcommand, Word};
 use std::alloc::{AllocError, Global};
@@ -218,12 +223,20 @@ const RECIPIENTS: Subcommand = Subcommand {
 
 const SUBCOMMANDS: &[Subcommand] = &[FRAME, EXPLAIN, CHECK, COMPILE, DUMP, WHY, RECIPIENTS];
 
+fn subcommands() -> &'static [Subcommand]
+    ensures { (shared : List TheWord) → map (shape_of_table shared) result.now ≡ tools }
+{
+    SUBCOMMANDS
+}
+
 /// The whole command line, with all subcommands.
-pub fn program(alloc: Global) -> Result<Program, AllocError> {
+pub fn program(alloc: Global) -> Result<Program, AllocError>
+    ensures { IfOk result (λ p. app_of_table p ≡ tool_app) }
+{
     Ok(Program {
         name: "mailfile-tool",
         about: "Tools for mailfile: sessions without counting octets, texts for numbers, script checks, images as text, and why a message is filed",
-        groups: vec![in alloc; SUBCOMMANDS]?,
+        groups: vec![in alloc; subcommands()]?,
         shared: &[],
         hints: &[],
         strays: &[],

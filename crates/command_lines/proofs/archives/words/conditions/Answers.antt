@@ -1,0 +1,5 @@
+use Rattle.std.proofs.Common.{refl}
+use Rattle.command_lines.proofs.archives.words.conditions.Goals as goal
+
+pub returns : goal.returns
+returns c = refl
