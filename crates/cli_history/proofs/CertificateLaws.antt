@@ -1,7 +1,7 @@
 -- Certificates that are written, a row at a time and a page at a time.
 use Rattle.std.proofs.Common.{◌≡◌, ◌+◌, ◌<◌, ◌≤◌, ◌++◌, ◌∷◌, ◌∙◌, [], ℕ, List, Bool, true, false, Option, Some, None, cond, map, take, get_or}
 use Rattle.std.proofs.Common.{length, refl, ap, sym, subst}
-use Rattle.std.proofs.lemmas.List.{append_assoc}
+use Rattle.std.proofs.lemmas.List.{append_assoc, append-nil}
 use Rattle.std.specs.Borrow.{Bor}
 use Rattle.std.specs.Prelude.{is_some}
 use Rattle.choice_words.specs.declared.numbers.TypedNumbers.{TypedNumbers}
@@ -15,11 +15,13 @@ use Rattle.record_history.specs.declared.events.Deed.{Deed}
 use Rattle.record_history.specs.declared.events.Deed.TheVariants.{Destroyed}
 use Rattle.cli_console.specs.Sequences.{AreTexts, first_after, one_text, only, texts_joined}
 use Rattle.cli_console.specs.Sinks.{Writes, more_written, nothing_written}
-use Rattle.cli_history.specs.Certified.{Certifies, IsCertificateOf, IsLineOf, WritesCertificates}
+use Rattle.cli_history.specs.Certified.{Certifies, CertifiesRow, IsCertificateOf, IsLineOf, WritesCertificates}
 use Rattle.cli_history.specs.Certified.{certified, certified_at, certified_rows, destroyed_by}
 use Rattle.cli_history.specs.Chosen.{is_about}
+use Rattle.cli_history.specs.Lawful.{Watches}
 use Rattle.cli_history.specs.Tellings.{TellEach, TellsRow}
 use Rattle.cli_history.specs.declared.certificates.PrintedCertificates.{PrintedCertificates}
+use Rattle.cli_history.specs.declared.watching.Watch.{Watch}
 use Rattle.cli_history.proofs.PrintingLaws.{tell_joined}
 use Rattle.cli_history.proofs.WalkLemmas.{all_of_page, more_of_page}
 
@@ -61,34 +63,56 @@ module _ {K : Type 0} (written : K → List ℕ → Type 0) where
     added = nothing_written written k;
     typed = refl;
     volume = refl;
+    watched = λ before so_far. subst (Watches p.watch) (sym (append-nil before)) so_far;
   }
 
   -- a row that tells no event of which a certificate is asked
   pub row_passed : (p q : PrintedCertificates) (k : K) (r : Row) (o : Option Event) → TellsRow r o → certified_at p.typed.now r o ≡ []
-      → q.typed ≡ p.typed → q.volume ≡ p.volume → Certifies written p k (r ∷ []) q k
-  row_passed p q k r o tells none typed volume = record {
-    told = o ∷ [];
-    tell = (tells, tt);
+      → q.typed ≡ p.typed → q.volume ≡ p.volume → q.watch ≡ p.watch → CertifiesRow written p k r q k
+  row_passed p q k r o tells none typed volume watch = record {
+    told = o;
+    tells = tells;
     text = [];
-    are = subst (λ xs. AreTexts (IsLineOf p.volume) true (xs ++ []) []) (sym none) refl;
+    are = subst (λ xs. AreTexts (IsLineOf p.volume) true xs []) (sym none) refl;
     added = nothing_written written k;
     typed = typed;
     volume = volume;
+    watch = watch;
   }
 
   -- one that does
   pub row_certified : (p q : PrintedCertificates) (k m : K) (r : Row) (e : Event) (n : ℕ) (text : List ℕ) → TellsRow r (Some e)
       → certified p.typed.now e ≡ Some n → IsCertificateOf p.volume r e (Some text) → Writes written k m text → q.typed ≡ p.typed
-      → q.volume ≡ p.volume → Certifies written p k (r ∷ []) q m
-  row_certified p q k m r e n text tells asked is writes typed volume = record {
-    told = Some e ∷ [];
-    tell = (tells, tt);
+      → q.volume ≡ p.volume → q.watch ≡ p.watch → CertifiesRow written p k r q m
+  row_certified p q k m r e n text tells asked is writes typed volume watch = record {
+    told = Some e;
+    tells = tells;
     text = text;
-    are = subst (λ (c : Option ℕ). AreTexts (IsLineOf p.volume) true (only (is_some c) (r, e) ++ []) text) (sym asked)
+    are = subst (λ (c : Option ℕ). AreTexts (IsLineOf p.volume) true (only (is_some c) (r, e)) text) (sym asked)
         (one_text (IsLineOf p.volume) true (r, e) text is);
     added = writes;
     typed = typed;
     volume = volume;
+    watch = watch;
+  }
+
+  -- one row that was judged before: but for the judge, the certificates are those as it was printed
+  pub one_certified : (p s q : PrintedCertificates) (k m : K) (r : Row) → s.typed ≡ p.typed → s.volume ≡ p.volume
+      → CertifiesRow written s k r q m → ((before : List Row) → Watches p.watch before → Watches s.watch (before ++ r ∷ []))
+      → Certifies written p k (r ∷ []) q m
+  one_certified p s q k m r typed volume certifies watched = record {
+    told = certifies.told ∷ [];
+    tell = (certifies.tells, tt);
+    text = certifies.text;
+    are = subst (λ xs. AreTexts (IsLineOf p.volume) true xs certifies.text) (sym (append-nil (certified_at p.typed.now r certifies.told)))
+        (subst (λ v. AreTexts (IsLineOf v) true (certified_at p.typed.now r certifies.told) certifies.text) volume
+        (subst (λ (t : Bor (List TypedNumbers)). AreTexts (IsLineOf s.volume) true (certified_at t.now r certifies.told) certifies.text) typed
+        certifies.are));
+    added = certifies.added;
+    typed = certifies.typed ∙ typed;
+    volume = certifies.volume ∙ volume;
+    watched = λ before so_far.
+        subst (λ (w : Watch). Watches w (before ++ r ∷ [])) (sym certifies.watch) (watched before so_far);
   }
 
   pub more_certified : (p q r : PrintedCertificates) (k m n : K) (rows more : List Row) → Certifies written p k rows q m
@@ -111,6 +135,8 @@ module _ {K : Type 0} (written : K → List ℕ → Type 0) where
         added = more_written written k m n one.text other.text one.added other.added;
         typed = other.typed ∙ one.typed;
         volume = other.volume ∙ one.volume;
+        watched = λ before so_far.
+            subst (Watches r.watch) (append_assoc before rows more) (other.watched (before ++ rows) (one.watched before so_far));
       }
 
   -- the rows of a page: one more, and all

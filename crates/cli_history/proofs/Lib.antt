@@ -12,6 +12,8 @@ pub mod ReplayLemmas
 pub mod TellingLemmas
 pub mod CaptureLemmas
 pub mod JudgementLemmas
+pub mod LawfulLemmas
+mod LawfulRows
 pub mod MarkLemmas
 pub mod OpeningLemmas
 pub mod PrintingLaws

@@ -1,6 +1,6 @@
 -- A history that is printed, a row at a time, a page at a time, and behind those of other stores.
 use Rattle.std.proofs.Common.{◌≡◌, ◌+◌, ◌<◌, ◌≤◌, ◌==◌, ◌&&◌, not, ◌++◌, ◌∷◌, ◌∙◌, [], ℕ, List, Bool, true, false, Option, None}
-use Rattle.std.proofs.Common.{map, take, get_or, length, refl, ap, sym, subst, Result, Ok, Err}
+use Rattle.std.proofs.Common.{map, take, get_or, length, refl, ap, ap₂, sym, subst, Result, Ok, Err}
 use Rattle.std.specs.Prelude.{OnOk}
 use Rattle.std.proofs.lemmas.List.{append_assoc, append-nil}
 use Rattle.std.specs.Borrow.{Bor}
@@ -15,7 +15,8 @@ use Rattle.cli_console.specs.Counts.{one_more}
 use Rattle.cli_console.specs.Sequences.{AreTexts, counted_joined, first_after, is_none, more_for, one_text, only, texts_joined}
 use Rattle.cli_console.specs.Sinks.{Writes, more_written, nothing_written}
 use Rattle.cli_history.specs.Printed.{AddsHistory, AddsRows, Begins, Ends, IsEventText, IsOfTheSame, PrintsRow, PrintsRows, Seen, end_of, head_in}
-use Rattle.cli_history.specs.Printed.{is_printed, no_places, printed, there_last, there_next}
+use Rattle.cli_history.specs.Printed.{IsNew, WritesHistory, head_of, head_unless, is_printed, no_places, printed, there_last, there_next}
+use Rattle.cli_history.specs.Lawful.{Watches}
 use Rattle.cli_history.specs.Tellings.{TellEach, TellsRow}
 use Rattle.cli_history.specs.declared.printing.HistoryText.{HistoryText}
 use Rattle.cli_history.specs.declared.printing.PrintedHistory.{PrintedHistory}
@@ -111,38 +112,52 @@ module _ {K : Type 0} (written : K → List ℕ → Type 0) where
   -- a row whose event is not asked for
   pub row_passed : (p q : PrintedHistory) (x : HistoryText K) (r : Row) (o : Option Event)
       → is_printed p.asked.now x.is_json p.is_there o ≡ false → q.is_there ≡ there_next p.asked.now.numbers.items p.is_there o
-      → IsOfTheSame p q → PrintsRow written p x r o q x
-  row_passed p q x r o passed there same = record {
+      → IsOfTheSame p q → q.watch ≡ p.watch → PrintsRow written p x r o q x
+  row_passed p q x r o passed there same watch = record {
     added = subst (λ b. AddsRows written p.volume x (only b (r, o)) x) (sym passed) (none_added p.volume x);
     there = there;
     same = same;
+    watch = watch;
   }
 
   -- one whose event is
   pub row_printed : (p q : PrintedHistory) (x y : HistoryText K) (r : Row) (o : Option Event) (text : List ℕ)
       → is_printed p.asked.now x.is_json p.is_there o ≡ true → IsEventText p.volume x.is_json (x.count == 0) (r, o) text
       → Writes written x.sink y.sink text → y ≡ record x { sink = y.sink; count = one_more x.count }
-      → q.is_there ≡ there_next p.asked.now.numbers.items p.is_there o → IsOfTheSame p q → PrintsRow written p x r o q y
-  row_printed p q x y r o text asked is writes rest there same = record {
+      → q.is_there ≡ there_next p.asked.now.numbers.items p.is_there o → IsOfTheSame p q → q.watch ≡ p.watch
+      → PrintsRow written p x r o q y
+  row_printed p q x y r o text asked is writes rest there same watch = record {
     added = subst (λ b. AddsRows written p.volume x (only b (r, o)) y) (sym asked)
         (one_added p.volume x y (r, o) text is writes rest);
     there = there;
     same = same;
+    watch = watch;
   }
 
   -- ---- rows that are printed
 
   pub none_printed : (p : PrintedHistory) (x : HistoryText K) → PrintsRows written p x [] p x
-  none_printed p x = record { told = []; tell = tt; added = none_added p.volume x; there = refl; same = same_still p }
+  none_printed p x = record {
+    told = [];
+    tell = tt;
+    added = none_added p.volume x;
+    there = refl;
+    same = same_still p;
+    watched = λ before so_far. subst (Watches p.watch) (sym (append-nil before)) so_far;
+  }
 
+  -- one row that was judged before it was printed
   pub one_printed : (p q : PrintedHistory) (x y : HistoryText K) (r : Row) (o : Option Event) → TellsRow r o
-      → PrintsRow written p x r o q y → PrintsRows written p x (r ∷ []) q y
-  one_printed p q x y r o tells prints = record {
+      → AddsRows written p.volume x (only (is_printed p.asked.now x.is_json p.is_there o) (r, o)) y
+      → q.is_there ≡ there_next p.asked.now.numbers.items p.is_there o → IsOfTheSame p q
+      → ((before : List Row) → Watches p.watch before → Watches q.watch (before ++ r ∷ [])) → PrintsRows written p x (r ∷ []) q y
+  one_printed p q x y r o tells added there same watched = record {
     told = o ∷ [];
     tell = (tells, tt);
-    added = subst (λ seen. AddsRows written p.volume x seen y) (printed_one p.asked.now x.is_json p.is_there r o) prints.added;
-    there = prints.there;
-    same = prints.same;
+    added = subst (λ seen. AddsRows written p.volume x seen y) (printed_one p.asked.now x.is_json p.is_there r o) added;
+    there = there;
+    same = same;
+    watched = watched;
   }
 
   pub more_printed : (p q r : PrintedHistory) (x y z : HistoryText K) (rows more : List Row) → PrintsRows written p x rows q y
@@ -166,6 +181,8 @@ module _ {K : Type 0} (written : K → List ℕ → Type 0) where
         there = other.there ∙ ap (λ (a : Bor HistoryAsked). there_last a.now.numbers.items q.is_there other.told) one.same.asked
             ∙ ap (λ b. there_last words b other.told) one.there ∙ there_joined words p.is_there one.told other.told;
         same = same_on p q r one.same other.same;
+        watched = λ before so_far.
+            subst (Watches r.watch) (append_assoc before rows more) (other.watched (before ++ rows) (one.watched before so_far));
       }
 
   -- the rows of a page: none, one more, and all
@@ -214,3 +231,25 @@ module _ {K : Type 0} (written : K → List ℕ → Type 0) where
   all_ended x y after begins ends =
       more_written written x.sink y.sink after (head_in x) (end_of x.is_json) begins.added
       (subst (λ j. Writes written y.sink after (end_of j)) begins.json ends)
+
+  -- the history of one store between one head and one end
+  pub history_written : (volume : Option ℕ) (asked : HistoryAsked) (before : K) (x y : HistoryText K) (after : K) (rows : List Row)
+      → IsNew asked.is_json before x → AddsHistory written volume asked x rows y → Ends written y after
+      → WritesHistory written volume asked before rows after
+  history_written volume asked before x y after rows new adds ends =
+      let heads : head_in x ≡ head_of asked.is_json = ap (λ b. head_unless b x.is_json) new.begun ∙ ap head_of new.json in
+      let tails : head_in y ++ end_of y.is_json ≡ end_of asked.is_json =
+      ap (λ b. head_unless b y.is_json ++ end_of y.is_json) adds.begun ∙ ap end_of (adds.json ∙ new.json) in
+      let all : Writes written before after ((head_in x ++ adds.text) ++ (head_in y ++ end_of y.is_json)) =
+      subst (λ (k : K). Writes written k after ((head_in x ++ adds.text) ++ (head_in y ++ end_of y.is_json))) new.sink_is
+      (more_written written x.sink y.sink after (head_in x ++ adds.text) (head_in y ++ end_of y.is_json) adds.added ends) in
+      record {
+        told = adds.told;
+        tell = adds.tell;
+        text = adds.text;
+        are = subst (λ j. AreTexts (IsEventText volume j) true (printed asked j false rows adds.told) adds.text) new.json
+            (subst (λ b. AreTexts (IsEventText volume x.is_json) b (printed asked x.is_json false rows adds.told) adds.text)
+            (ap (λ n. n == 0) new.count) adds.are);
+        writes = subst (Writes written before after)
+            (ap₂ (λ (h : List ℕ) (e : List ℕ). (h ++ adds.text) ++ e) heads tails) all;
+      }

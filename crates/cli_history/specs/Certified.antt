@@ -10,7 +10,8 @@ use Rattle.cli_texts.specs.declared.events.ToldCertificate.{ToldCertificate}
 use Rattle.cli_console.specs.Sequences.{AreTexts, only}
 use Rattle.cli_console.specs.Sinks.{Writes}
 use Rattle.cli_history.specs.Chosen.{is_about}
-use Rattle.cli_history.specs.Tellings.{TellEach}
+use Rattle.cli_history.specs.Lawful.{Watches}
+use Rattle.cli_history.specs.Tellings.{TellEach, TellsRow}
 use Rattle.cli_history.specs.declared.certificates.PrintedCertificates.{PrintedCertificates}
 
 -- the record that a deed destroys, if it destroys one
@@ -55,7 +56,20 @@ certified_rows words rows told = []
 abbrev pub IsLineOf : (volume : Option ℕ) → (is_first : Bool) → Row × Event → List ℕ → Type 0
 IsLineOf volume is_first x line = IsCertificateOf volume x.0 x.1 (Some line)
 
--- the certificates of these rows that are asked for are written, each once, in this order, and nothing else
+-- the certificate of the event of a row is written, where it is asked for, and nothing else
+pub record CertifiesRow {K : Type 0} (written : K → List ℕ → Type 0) (was : PrintedCertificates) (before : K) (r : Row)
+    (is : PrintedCertificates) (after : K) : Type 0 where
+  pub told : Option Event
+  pub tells : TellsRow r told
+  pub text : List ℕ
+  pub are : AreTexts (IsLineOf was.volume) true (certified_at was.typed.now r told) text
+  pub added : Writes written before after text
+  pub typed : is.typed ≡ was.typed
+  pub volume : is.volume ≡ was.volume
+  pub watch : is.watch ≡ was.watch
+
+-- the certificates of these rows that are asked for are written, each once, in this order, and nothing else; and all of the rows were
+-- judged
 pub record Certifies {K : Type 0} (written : K → List ℕ → Type 0) (was : PrintedCertificates) (before : K) (rows : List Row)
     (is : PrintedCertificates) (after : K) : Type 0 where
   pub told : List (Option Event)
@@ -65,6 +79,7 @@ pub record Certifies {K : Type 0} (written : K → List ℕ → Type 0) (was : P
   pub added : Writes written before after text
   pub typed : is.typed ≡ was.typed
   pub volume : is.volume ≡ was.volume
+  pub watched : (before : List Row) → Watches was.watch before → Watches is.watch (before ++ rows)
 
 -- THE CERTIFICATES OF THESE ROWS that are asked for are written, and nothing else
 abbrev pub WritesCertificates : {K : Type 0} → (written : K → List ℕ → Type 0) → (volume : Option ℕ) → List TypedNumbers → (before : K)

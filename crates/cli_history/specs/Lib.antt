@@ -16,6 +16,7 @@ pub mod Captures
 pub mod Openings
 pub mod Acceptances
 pub mod Judgements
+pub mod Lawful
 pub mod Volumes
 pub mod Printed
 pub mod Certified

@@ -13,6 +13,7 @@ use Rattle.cli_texts.specs.declared.history_lines.NumberPlaces.{NumberPlaces}
 use Rattle.cli_console.specs.Sequences.{AreTexts, between, more_for, only}
 use Rattle.cli_console.specs.Sinks.{Writes}
 use Rattle.cli_history.specs.Chosen.{asks_for, asks_for_all, is_there_after}
+use Rattle.cli_history.specs.Lawful.{Watches}
 use Rattle.cli_history.specs.Tellings.{TellEach}
 use Rattle.cli_history.specs.declared.printing.HistoryText.{HistoryText}
 use Rattle.cli_history.specs.declared.printing.PrintedHistory.{PrintedHistory}
@@ -147,6 +148,16 @@ pub record AddsHistory {K : Type 0} (written : K → List ℕ → Type 0) (volum
   pub json : new.is_json ≡ old.is_json
   pub begun : new.is_begun ≡ true
 
+-- THE HISTORY OF THESE ROWS IS PRINTED: what stands before the events, the events that are asked for, each once and in this order, and
+-- what stands after them; and nothing else
+pub record WritesHistory {K : Type 0} (written : K → List ℕ → Type 0) (volume : Option ℕ) (asked : HistoryAsked) (before : K)
+    (rows : List Row) (after : K) : Type 0 where
+  pub told : List (Option Event)
+  pub tell : TellEach rows told
+  pub text : List ℕ
+  pub are : AreTexts (IsEventText volume asked.is_json) true (printed asked asked.is_json false rows told) text
+  pub writes : Writes written before after (head_of asked.is_json ++ text ++ end_of asked.is_json)
+
 -- ALL IS PRINTED: what there is, and behind that what stands after all events
 abbrev pub Ends : {K : Type 0} → (written : K → List ℕ → Type 0) → HistoryText K → K → Type 0
 Ends written x after = Writes written x.sink after (head_in x ++ end_of x.is_json)
@@ -164,8 +175,9 @@ pub record PrintsRow {K : Type 0} (written : K → List ℕ → Type 0) (was : P
   pub added : AddsRows written was.volume old (only (is_printed was.asked.now old.is_json was.is_there o) (r, o)) new
   pub there : is.is_there ≡ there_next was.asked.now.numbers.items was.is_there o
   pub same : IsOfTheSame was is
+  pub watch : is.watch ≡ was.watch
 
--- those of these rows were printed that are asked for
+-- those of these rows were printed that are asked for, and all of them were judged
 pub record PrintsRows {K : Type 0} (written : K → List ℕ → Type 0) (was : PrintedHistory) (old : HistoryText K) (rows : List Row)
     (is : PrintedHistory) (new : HistoryText K) : Type 0 where
   pub told : List (Option Event)
@@ -173,3 +185,4 @@ pub record PrintsRows {K : Type 0} (written : K → List ℕ → Type 0) (was : 
   pub added : AddsRows written was.volume old (printed was.asked.now old.is_json was.is_there rows told) new
   pub there : is.is_there ≡ there_last was.asked.now.numbers.items was.is_there told
   pub same : IsOfTheSame was is
+  pub watched : (before : List Row) → Watches was.watch before → Watches is.watch (before ++ rows)
