@@ -10,6 +10,9 @@ pub mod ComparisonLemmas
 pub mod MadeLemmas
 pub mod ReplayLemmas
 pub mod TellingLemmas
+pub mod BlankLemmas
+pub mod OneSealLemmas
+mod OneSealRows
 pub mod CaptureLemmas
 pub mod JudgementLemmas
 pub mod LawfulLemmas

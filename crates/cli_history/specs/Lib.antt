@@ -12,6 +12,7 @@ pub mod Titles
 pub mod Walks
 pub mod Replays
 pub mod Tellings
+pub mod OneSeal
 pub mod Captures
 pub mod Openings
 pub mod Acceptances
