@@ -19,6 +19,8 @@ pub mod LawfulLemmas
 mod LawfulRows
 pub mod MarkLemmas
 pub mod OpeningLemmas
+pub mod MissingLemmas
+mod MissingRows
 pub mod PrintingLaws
 pub mod CertificateLaws
 mod PrintedRows

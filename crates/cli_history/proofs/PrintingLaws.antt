@@ -1,5 +1,5 @@
 -- A history that is printed, a row at a time, a page at a time, and behind those of other stores.
-use Rattle.std.proofs.Common.{◌≡◌, ◌+◌, ◌<◌, ◌≤◌, ◌==◌, ◌&&◌, not, ◌++◌, ◌∷◌, ◌∙◌, [], ℕ, List, Bool, true, false, Option, None}
+use Rattle.std.proofs.Common.{◌≡◌, ◌+◌, ◌<◌, ◌≤◌, ◌==◌, ◌&&◌, not, ◌++◌, ◌∷◌, ◌∙◌, [], ℕ, List, Bool, true, false, Option, Some, None}
 use Rattle.std.proofs.Common.{map, take, get_or, length, refl, ap, ap₂, sym, subst, Result, Ok, Err}
 use Rattle.std.specs.Prelude.{OnOk}
 use Rattle.std.proofs.lemmas.List.{append_assoc, append-nil}
@@ -9,17 +9,20 @@ use Rattle.command_lines.specs.declared.archives.histories.HistoryAsked.{History
 use Rattle.record_tables.specs.Events.{Event as Row}
 use Rattle.record_reads.specs.Events.{event_of}
 use Rattle.record_reads.specs.declared.events.EventRow.{EventRow}
-use Rattle.record_history.specs.Events.{Event}
+use Rattle.record_history.specs.Events.{Deed, Event}
 use Rattle.cli_texts.specs.HistoryLines.{history_text, line_in}
 use Rattle.cli_console.specs.Counts.{one_more}
 use Rattle.cli_console.specs.Sequences.{AreTexts, counted_joined, first_after, is_none, more_for, one_text, only, texts_joined}
 use Rattle.cli_console.specs.Sinks.{Writes, more_written, nothing_written}
 use Rattle.cli_history.specs.Printed.{AddsHistory, AddsRows, Begins, Ends, IsEventText, IsOfTheSame, PrintsRow, PrintsRows, Seen, end_of, head_in}
-use Rattle.cli_history.specs.Printed.{IsNew, WritesHistory, head_of, head_unless, is_printed, no_places, printed, there_last, there_next}
+use Rattle.cli_history.specs.Printed.{IsNew, LeavesUnmet, MeetsAll, WritesHistory, deeds_in, head_of, head_unless, is_printed}
+use Rattle.cli_history.specs.Printed.{no_places, printed, there_last, there_next}
 use Rattle.cli_history.specs.Lawful.{Watches}
+use Rattle.cli_history.specs.Missing.{unmet}
 use Rattle.cli_history.specs.Tellings.{TellEach, TellsRow}
 use Rattle.cli_history.specs.declared.printing.HistoryText.{HistoryText}
 use Rattle.cli_history.specs.declared.printing.PrintedHistory.{PrintedHistory}
+use Rattle.cli_history.proofs.MissingLemmas.{all_met, unmet_joined}
 use Rattle.cli_history.proofs.WalkLemmas.{all_of_page, more_of_page}
 
 -- what follows from two facts of what ends well
@@ -56,6 +59,20 @@ printed_joined asked j t (r ∷ rows) more [] others tell = absurd tell
 printed_one : (asked : HistoryAsked) (j t : Bool) (r : Row) (o : Option Event)
     → only (is_printed asked j t o) (r, o) ≡ printed asked j t (r ∷ []) (o ∷ [])
 printed_one asked j t r o = sym (append-nil (only (is_printed asked j t o) (r, o)))
+
+deeds_joined : (one other : List Seen) → deeds_in (one ++ other) ≡ deeds_in one ++ deeds_in other
+deeds_joined [] other = refl
+deeds_joined ((r, None) ∷ one) other = deeds_joined one other
+deeds_joined ((r, Some e) ∷ one) other = ap (λ (ds : List Deed). e.deed ∷ ds) (deeds_joined one other)
+
+-- where no number is left, each is met
+pub each_met : (asked : HistoryAsked) (rows : List Row) (left : List TypedNumbers) → LeavesUnmet asked asked.is_json rows left → left ≡ []
+    → MeetsAll asked rows
+each_met asked rows left leaves none = record {
+  told = leaves.told;
+  tell = leaves.tell;
+  met = all_met asked.numbers.items (deeds_in (printed asked asked.is_json false rows leaves.told)) (sym leaves.are ∙ none);
+}
 
 pub same_still : (p : PrintedHistory) → IsOfTheSame p p
 same_still p = record { asked = refl; volume = refl }
@@ -112,12 +129,13 @@ module _ {K : Type 0} (written : K → List ℕ → Type 0) where
   -- a row whose event is not asked for
   pub row_passed : (p q : PrintedHistory) (x : HistoryText K) (r : Row) (o : Option Event)
       → is_printed p.asked.now x.is_json p.is_there o ≡ false → q.is_there ≡ there_next p.asked.now.numbers.items p.is_there o
-      → IsOfTheSame p q → q.watch ≡ p.watch → PrintsRow written p x r o q x
-  row_passed p q x r o passed there same watch = record {
+      → IsOfTheSame p q → q.watch ≡ p.watch → q.missing.rest.items ≡ p.missing.rest.items → PrintsRow written p x r o q x
+  row_passed p q x r o passed there same watch left = record {
     added = subst (λ b. AddsRows written p.volume x (only b (r, o)) x) (sym passed) (none_added p.volume x);
     there = there;
     same = same;
     watch = watch;
+    met = left ∙ ap (λ b. unmet p.missing.rest.items (deeds_in (only b (r, o)))) (sym passed);
   }
 
   -- one whose event is
@@ -125,13 +143,14 @@ module _ {K : Type 0} (written : K → List ℕ → Type 0) where
       → is_printed p.asked.now x.is_json p.is_there o ≡ true → IsEventText p.volume x.is_json (x.count == 0) (r, o) text
       → Writes written x.sink y.sink text → y ≡ record x { sink = y.sink; count = one_more x.count }
       → q.is_there ≡ there_next p.asked.now.numbers.items p.is_there o → IsOfTheSame p q → q.watch ≡ p.watch
-      → PrintsRow written p x r o q y
-  row_printed p q x y r o text asked is writes rest there same watch = record {
+      → q.missing.rest.items ≡ unmet p.missing.rest.items (deeds_in ((r, o) ∷ [])) → PrintsRow written p x r o q y
+  row_printed p q x y r o text asked is writes rest there same watch left = record {
     added = subst (λ b. AddsRows written p.volume x (only b (r, o)) y) (sym asked)
         (one_added p.volume x y (r, o) text is writes rest);
     there = there;
     same = same;
     watch = watch;
+    met = left ∙ ap (λ b. unmet p.missing.rest.items (deeds_in (only b (r, o)))) (sym asked);
   }
 
   -- ---- rows that are printed
@@ -144,20 +163,24 @@ module _ {K : Type 0} (written : K → List ℕ → Type 0) where
     there = refl;
     same = same_still p;
     watched = λ before so_far. subst (Watches p.watch) (sym (append-nil before)) so_far;
+    met = refl;
   }
 
   -- one row that was judged before it was printed
   pub one_printed : (p q : PrintedHistory) (x y : HistoryText K) (r : Row) (o : Option Event) → TellsRow r o
       → AddsRows written p.volume x (only (is_printed p.asked.now x.is_json p.is_there o) (r, o)) y
       → q.is_there ≡ there_next p.asked.now.numbers.items p.is_there o → IsOfTheSame p q
-      → ((before : List Row) → Watches p.watch before → Watches q.watch (before ++ r ∷ [])) → PrintsRows written p x (r ∷ []) q y
-  one_printed p q x y r o tells added there same watched = record {
+      → ((before : List Row) → Watches p.watch before → Watches q.watch (before ++ r ∷ []))
+      → q.missing.rest.items ≡ unmet p.missing.rest.items (deeds_in (only (is_printed p.asked.now x.is_json p.is_there o) (r, o)))
+      → PrintsRows written p x (r ∷ []) q y
+  one_printed p q x y r o tells added there same watched met = record {
     told = o ∷ [];
     tell = (tells, tt);
     added = subst (λ seen. AddsRows written p.volume x seen y) (printed_one p.asked.now x.is_json p.is_there r o) added;
     there = there;
     same = same;
     watched = watched;
+    met = met ∙ ap (λ seen. unmet p.missing.rest.items (deeds_in seen)) (printed_one p.asked.now x.is_json p.is_there r o);
   }
 
   pub more_printed : (p q r : PrintedHistory) (x y z : HistoryText K) (rows more : List Row) → PrintsRows written p x rows q y
@@ -165,6 +188,13 @@ module _ {K : Type 0} (written : K → List ℕ → Type 0) where
   more_printed p q r x y z rows more one other =
       let words = p.asked.now.numbers.items in
       let t = there_last words p.is_there one.told in
+      let left = p.missing.rest.items in
+      let here = printed p.asked.now x.is_json p.is_there rows one.told in
+      let there = printed p.asked.now x.is_json t more other.told in
+      let those : printed q.asked.now y.is_json q.is_there more other.told ≡ there =
+      ap (λ (a : Bor HistoryAsked). printed a.now y.is_json q.is_there more other.told) one.same.asked
+      ∙ ap (λ j. printed p.asked.now j q.is_there more other.told) one.added.json
+      ∙ ap (λ b. printed p.asked.now x.is_json b more other.told) one.there in
       let behind : AddsRows written p.volume y (printed p.asked.now x.is_json t more other.told) z =
       subst (λ v. AddsRows written v y (printed p.asked.now x.is_json t more other.told) z) one.same.volume
       (subst (λ b. AddsRows written q.volume y (printed p.asked.now x.is_json b more other.told) z) one.there
@@ -183,6 +213,9 @@ module _ {K : Type 0} (written : K → List ℕ → Type 0) where
         same = same_on p q r one.same other.same;
         watched = λ before so_far.
             subst (Watches r.watch) (append_assoc before rows more) (other.watched (before ++ rows) (one.watched before so_far));
+        met = other.met ∙ ap (λ seen. unmet q.missing.rest.items (deeds_in seen)) those ∙ ap (λ ws. unmet ws (deeds_in there)) one.met
+            ∙ unmet_joined left (deeds_in here) (deeds_in there) ∙ ap (unmet left) (sym (deeds_joined here there))
+            ∙ ap (λ seen. unmet left (deeds_in seen)) (printed_joined p.asked.now x.is_json p.is_there rows more one.told other.told one.tell);
       }
 
   -- the rows of a page: none, one more, and all
@@ -224,6 +257,20 @@ module _ {K : Type 0} (written : K → List ℕ → Type 0) where
         counted = added.counted ∙ ap (more_for (printed asked x.is_json false rows prints.told)) begins.counted;
         json = added.json ∙ begins.json;
         begun = added.begun ∙ begins.begun;
+      }
+
+  pub history_met : (asked : HistoryAsked) (p q : PrintedHistory) (x y z : HistoryText K) (rows : List Row) → Begins written x y
+      → p.asked.now ≡ asked → p.is_there ≡ false → p.missing.rest.items ≡ asked.numbers.items → PrintsRows written p y rows q z
+      → LeavesUnmet asked x.is_json rows q.missing.rest.items
+  history_met asked p q x y z rows begins own there typed prints =
+      let those : printed p.asked.now y.is_json p.is_there rows prints.told ≡ printed asked x.is_json false rows prints.told =
+      ap (λ a. printed a y.is_json p.is_there rows prints.told) own ∙ ap (λ j. printed asked j p.is_there rows prints.told) begins.json
+      ∙ ap (λ b. printed asked x.is_json b rows prints.told) there in
+      record {
+        told = prints.told;
+        tell = prints.tell;
+        are = prints.met ∙ ap (λ seen. unmet p.missing.rest.items (deeds_in seen)) those
+            ∙ ap (λ ws. unmet ws (deeds_in (printed asked x.is_json false rows prints.told))) typed;
       }
 
   pub all_ended : (x y : HistoryText K) (after : K) → Begins written x y → Writes written y.sink after (end_of y.is_json)

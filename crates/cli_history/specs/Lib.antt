@@ -19,6 +19,7 @@ pub mod Acceptances
 pub mod Judgements
 pub mod Lawful
 pub mod Volumes
+pub mod Missing
 pub mod Printed
 pub mod Certified
 pub mod AllCases

@@ -9,7 +9,7 @@ ghost use Rattle.cli_console.specs.Counts.{one_more};
 ghost use Rattle.cli_console.specs.Sinks.{Writes};
 ghost use Rattle.cli_history.specs.Chosen.{asks_for_all};
 ghost use Rattle.cli_history.specs.Lawful.{IsLawful, Watches};
-ghost use Rattle.cli_history.specs.Printed.{AddsHistory, Begins, Ends, IsEventText, IsNew, IsObjectOf, PrintsRow, PrintsRows, WritesHistory, end_of, head_unless, number_places as places_of};
+ghost use Rattle.cli_history.specs.Printed.{AddsHistory, Begins, Ends, IsEventText, IsNew, IsObjectOf, LeavesUnmet, MeetsAll, PrintsRow, PrintsRows, WritesHistory, end_of, head_unless, number_places as places_of};
 ghost use Rattle.cli_history.specs.Tellings.{is_told_as_bad};
 ghost use Rattle.cli_history.specs.Walks.{ForArchive, Looks};
 
@@ -236,6 +236,8 @@ impl<K: Sink + Drop> HistoryText<K> {
             AddsHistory K.written volume asked.now self.old (rows_of ls) self.new)) }
         ensures judged { IfOk result (λ p. ForArchive S.Store noted.old noted.new
             (λ a ls. Watches p.watch (rows_of ls))) }
+        ensures met { IfOk result (λ p. ForArchive S.Store noted.old noted.new (λ a ls.
+            LeavesUnmet asked.now self.old.is_json (rows_of ls) p.missing.rest.items)) }
     {
         self.begin()?;
         let mut printing = PrintedHistory::of(rt.alloc(), volume, asked)?;
@@ -266,6 +268,7 @@ impl<'q, 'a> PrintedHistory<'q, 'a> {
         ensures volume { IfOk result (λ p. p.volume ≡ volume) }
         ensures there { IfOk result (λ p. p.is_there ≡ false) }
         ensures judged { IfOk result (λ p. Watches p.watch []) }
+        ensures typed { IfOk result (λ p. p.missing.rest.items ≡ asked.now.numbers.items) }
     {
         Ok(PrintedHistory {
             asked,
@@ -386,6 +389,7 @@ impl<'q, 'a> PrintedHistory<'q, 'a> {
     pub fn end(&self, rt: &HostRuntime) -> Result<(), Failure>
         ensures sound { OnOk result (is_none self.now.watch.fault ≡ true) }
         ensures read { OnOk result (self.now.is_any_unread ≡ false) }
+        ensures met { OnOk result (self.now.missing.rest.items ≡ []) }
     {
         self.watch.end(rt.alloc())?;
         let is_all_met = self.missing.tell(rt, self.volume, unmet_words(self.asked))?;
@@ -409,6 +413,8 @@ fn history_to<'q, 'a, S: Alter, K: Sink + Drop>(
         WritesHistory K.written None asked.now sink (rows_of ls) printed.1)) }
     ensures judged { IfOk result (λ printed. ForArchive S.Store noted.old noted.new (λ a ls.
         Watches printed.0.watch (rows_of ls))) }
+    ensures met { IfOk result (λ printed. ForArchive S.Store noted.old noted.new (λ a ls.
+        LeavesUnmet asked.now asked.now.is_json (rows_of ls) printed.0.missing.rest.items)) }
 {
     let mut text = HistoryText::new(asked.is_json, sink);
     let printing = text.add_history(rt, noted, None, asked)?;
@@ -427,6 +433,8 @@ pub fn write_history<S: Alter>(
     ensures looks { Looks S.Store noted.old noted.new }
     ensures lawful { OnOk result
         (ForArchive S.Store noted.old noted.new (λ a ls. IsLawful ls)) }
+    ensures met { OnOk result
+        (ForArchive S.Store noted.old noted.new (λ a ls. MeetsAll asked.now (rows_of ls))) }
 {
     let output = StandardOutput::new(rt);
     let (printing, _output) = history_to(rt, noted, asked, output)?;

@@ -10,4 +10,4 @@ returns-clause-certified g c =
     let was = c.args.self.now in
     on_ok_weaker c.print_one.result (λ certifies.
     one_certified g.K.Sink.written was (record was { watch = c.look_at.new.self }) c.print_one.new.self c.args.sink.now c.print_one.new.sink
-    (event_of c.args.row.now) refl refl certifies c.in_ok-look_at.ensures.watches) c.print_one.ensures.certified
+    (event_of c.args.row.now) refl refl refl certifies c.in_ok-look_at.ensures.watches) c.print_one.ensures.certified

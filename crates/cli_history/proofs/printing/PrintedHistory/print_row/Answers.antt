@@ -17,8 +17,8 @@ returns-in-Ok g c =
     (Some (event_view c.in-Ok.event)) c.in-Ok.ensures.tells
     prints.added prints.there (record { asked = prints.same.asked; volume = prints.same.volume })
     (λ (before : List Row) so_far.
-    subst (λ (w : Watch). Watches w (before ++ row ∷ [])) (sym prints.watch) (c.in_ok-look_at.ensures.watches before so_far)))
-    c.print_event.ensures
+    subst (λ (w : Watch). Watches w (before ++ row ∷ [])) (sym prints.watch) (c.in_ok-look_at.ensures.watches before so_far))
+    prints.met) c.print_event.ensures
 
 pub returns-in-Err : goal.returns-in-Err
 returns-in-Err g c =
@@ -28,4 +28,5 @@ returns-in-Err g c =
     (c.in-Err.ensures.tells unread)
     prints.added prints.there (record { asked = prints.same.asked; volume = prints.same.volume })
     (λ (before : List Row) so_far.
-    subst (λ (w : Watch). Watches w (before ++ row ∷ [])) (sym prints.watch) (c.in_ok-look_at.ensures.watches before so_far)))
+    subst (λ (w : Watch). Watches w (before ++ row ∷ [])) (sym prints.watch) (c.in_ok-look_at.ensures.watches before so_far))
+    prints.met)
