@@ -2,10 +2,14 @@
 use Rattle.std.specs.Prelude.{◌≡◌, ℕ, ◌++◌, ◌==◌, ◌||◌, Bool, nat_eq, List, Option, Some, None, codes, decimal, string_bytes}
 use Rattle.std.specs.Borrow.{Bor}
 use Rattle.std.specs.List.{after_first, starts_with}
+use Rattle.sqlite.specs.Store.{Ghosts}
 use Rattle.record_tables.specs.Events.{Event as Row}
-use Rattle.record_history.specs.Events.{Event}
+use Rattle.record_history.specs.Events.{Event, Seal}
+use Rattle.record_noted.specs.Histories.{rows_of}
+use Rattle.record_store.specs.declared.store.Store.{Store}
 use Rattle.cli_history.specs.Seals.{known, later}
 use Rattle.cli_history.specs.Tellings.{TellEach, TellsRow, seal_told, sealed_among}
+use Rattle.cli_history.specs.Walks.{KeepsLinesIn}
 use Rattle.cli_history.specs.declared.seals.Beginnings.{Beginnings}
 use Rattle.cli_history.specs.declared.seals.Seals.{Seals}
 
@@ -40,3 +44,8 @@ TakesSeal message r old new = (told : Option Event) → TellsRow r told → know
 -- THE SEAL OF A MESSAGE IS THAT OF A HISTORY: of the events that its rows tell the last one counts that tells a seal of the message
 abbrev pub IsSealIn : (message : ℕ) → Seals → List Row → Type 0
 IsSealIn message s rows = (told : List (Option Event)) → TellEach rows told → known s message ≡ sealed_among rows told message
+
+-- THE HISTORY OF A STORE TELLS THIS SEAL of a message last, or none
+abbrev pub TellsLast : {S : Type 0} → Ghosts S → Store S → (message : ℕ) → Option (Seal × ℕ) → Type 0
+TellsLast g store message last = (ls : List (List ℕ)) → KeepsLinesIn g store ls → (told : List (Option Event)) → TellEach (rows_of ls) told
+    → last ≡ sealed_among (rows_of ls) told message
