@@ -26,7 +26,7 @@ tell_more (q ∷ rows) (p ∷ told) r o tell is = (tell.0, tell_more rows told r
 tell_more [] (p ∷ told) r o tell is = absurd tell
 tell_more (q ∷ rows) [] r o tell is = absurd tell
 
-sealed_more : (rows : List Row) (told : List (Option Event)) (r : Row) (o : Option Event) → TellEach rows told → (message : ℕ)
+pub sealed_more : (rows : List Row) (told : List (Option Event)) (r : Row) (o : Option Event) → TellEach rows told → (message : ℕ)
     → sealed_among (rows ++ r ∷ []) (told ++ o ∷ []) message ≡ later (seal_told r o message) (sealed_among rows told message)
 sealed_more [] [] r o tell message = later_none (seal_told r o message)
 sealed_more (q ∷ rows) (p ∷ told) r o tell message =

@@ -12,11 +12,14 @@ pub mod Titles
 pub mod Walks
 pub mod Replays
 pub mod Tellings
+pub mod OneSeal
 pub mod Captures
 pub mod Openings
 pub mod Acceptances
 pub mod Judgements
+pub mod Lawful
 pub mod Volumes
+pub mod Missing
 pub mod Printed
 pub mod Certified
 pub mod AllCases

@@ -13,6 +13,8 @@ use Rattle.cli_texts.specs.declared.history_lines.NumberPlaces.{NumberPlaces}
 use Rattle.cli_console.specs.Sequences.{AreTexts, between, more_for, only}
 use Rattle.cli_console.specs.Sinks.{Writes}
 use Rattle.cli_history.specs.Chosen.{asks_for, asks_for_all, is_there_after}
+use Rattle.cli_history.specs.Lawful.{Watches}
+use Rattle.cli_history.specs.Missing.{are_met, unmet}
 use Rattle.cli_history.specs.Tellings.{TellEach}
 use Rattle.cli_history.specs.declared.printing.HistoryText.{HistoryText}
 use Rattle.cli_history.specs.declared.printing.PrintedHistory.{PrintedHistory}
@@ -93,6 +95,24 @@ printed asked is_json is_there (r ∷ rows) (o ∷ told) =
     ++ printed asked is_json (there_next asked.numbers.items is_there o) rows told
 printed asked is_json is_there rows told = []
 
+-- the deeds of the events among them
+abbrev pub deeds_in : List Seen → List Deed
+deeds_in [] = []
+deeds_in ((r, None) ∷ seen) = deeds_in seen
+deeds_in ((r, Some e) ∷ seen) = e.deed ∷ deeds_in seen
+
+-- these numbers are left of those that are typed: no event that is printed of these rows tells of one
+pub record LeavesUnmet (asked : HistoryAsked) (is_json : Bool) (rows : List Row) (left : List TypedNumbers) : Type 0 where
+  pub told : List (Option Event)
+  pub tell : TellEach rows told
+  pub are : left ≡ unmet asked.numbers.items (deeds_in (printed asked is_json false rows told))
+
+-- EACH NUMBER THAT IS TYPED IS MET: an event that is printed of these rows is about a record of it
+pub record MeetsAll (asked : HistoryAsked) (rows : List Row) : Type 0 where
+  pub told : List (Option Event)
+  pub tell : TellEach rows told
+  pub met : are_met asked.numbers.items (deeds_in (printed asked asked.is_json false rows told)) ≡ true
+
 -- ---- the texts of several histories
 
 -- what stands before the events
@@ -147,6 +167,16 @@ pub record AddsHistory {K : Type 0} (written : K → List ℕ → Type 0) (volum
   pub json : new.is_json ≡ old.is_json
   pub begun : new.is_begun ≡ true
 
+-- THE HISTORY OF THESE ROWS IS PRINTED: what stands before the events, the events that are asked for, each once and in this order, and
+-- what stands after them; and nothing else
+pub record WritesHistory {K : Type 0} (written : K → List ℕ → Type 0) (volume : Option ℕ) (asked : HistoryAsked) (before : K)
+    (rows : List Row) (after : K) : Type 0 where
+  pub told : List (Option Event)
+  pub tell : TellEach rows told
+  pub text : List ℕ
+  pub are : AreTexts (IsEventText volume asked.is_json) true (printed asked asked.is_json false rows told) text
+  pub writes : Writes written before after (head_of asked.is_json ++ text ++ end_of asked.is_json)
+
 -- ALL IS PRINTED: what there is, and behind that what stands after all events
 abbrev pub Ends : {K : Type 0} → (written : K → List ℕ → Type 0) → HistoryText K → K → Type 0
 Ends written x after = Writes written x.sink after (head_in x ++ end_of x.is_json)
@@ -164,8 +194,10 @@ pub record PrintsRow {K : Type 0} (written : K → List ℕ → Type 0) (was : P
   pub added : AddsRows written was.volume old (only (is_printed was.asked.now old.is_json was.is_there o) (r, o)) new
   pub there : is.is_there ≡ there_next was.asked.now.numbers.items was.is_there o
   pub same : IsOfTheSame was is
+  pub watch : is.watch ≡ was.watch
+  pub met : is.missing.rest.items ≡ unmet was.missing.rest.items (deeds_in (only (is_printed was.asked.now old.is_json was.is_there o) (r, o)))
 
--- those of these rows were printed that are asked for
+-- those of these rows were printed that are asked for, and all of them were judged
 pub record PrintsRows {K : Type 0} (written : K → List ℕ → Type 0) (was : PrintedHistory) (old : HistoryText K) (rows : List Row)
     (is : PrintedHistory) (new : HistoryText K) : Type 0 where
   pub told : List (Option Event)
@@ -173,3 +205,5 @@ pub record PrintsRows {K : Type 0} (written : K → List ℕ → Type 0) (was : 
   pub added : AddsRows written was.volume old (printed was.asked.now old.is_json was.is_there rows told) new
   pub there : is.is_there ≡ there_last was.asked.now.numbers.items was.is_there told
   pub same : IsOfTheSame was is
+  pub watched : (before : List Row) → Watches was.watch before → Watches is.watch (before ++ rows)
+  pub met : is.missing.rest.items ≡ unmet was.missing.rest.items (deeds_in (printed was.asked.now old.is_json was.is_there rows told))

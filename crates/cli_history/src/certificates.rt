@@ -1,11 +1,12 @@
 //! `certificates`: those of records that were destroyed, from the history.
 
-ghost use Rattle.std.specs.Prelude.{◌≡◌, ◌∷◌, [], IfOk, IfSome, OnOk, map, option_map};
+ghost use Rattle.std.specs.Prelude.{◌≡◌, ◌∷◌, [], IfOk, IfSome, OnOk, is_none, map, option_map, true};
 ghost use Rattle.record_history.specs.Spelled.{IsSpelledDeed};
 ghost use Rattle.record_history.specs.Views.{deed_view, event_view};
 ghost use Rattle.record_noted.specs.Histories.{rows_of};
 ghost use Rattle.record_reads.specs.Events.{event_of as row_of};
-ghost use Rattle.cli_history.specs.Certified.{Certifies, IsCertificateOf, WritesCertificates, certified, destroyed_by as record_destroyed};
+ghost use Rattle.cli_history.specs.Certified.{Certifies, CertifiesEach, CertifiesRow, IsCertificateOf, LeavesUncertified, WritesCertificates, certified, destroyed_by as record_destroyed};
+ghost use Rattle.cli_history.specs.Lawful.{IsLawful, Watches};
 ghost use Rattle.cli_history.specs.Tellings.{TellsRow};
 ghost use Rattle.cli_history.specs.Titles.{title_seen, title_beside};
 ghost use Rattle.cli_history.specs.Walks.{ForArchive, Looks};
@@ -362,8 +363,8 @@ impl<'n> PrintedCertificates<'n> {
         sink: &mut K,
     ) -> Result<(), Failure>
         ensures looks { Looks S.Store noted.old noted.new }
-        ensures certified { OnOk result (Certifies K.written self.old sink.old
-            (row_of row.now ∷ []) self.new sink.new) }
+        ensures certified { OnOk result (CertifiesRow K.written self.old sink.old
+            (row_of row.now) self.new sink.new) }
     {
         let Some(event) = readable(rt.alloc(), row)? else {
             return Ok(());
@@ -441,7 +442,9 @@ impl<'n> PrintedCertificates<'n> {
         &self,
         rt: &HostRuntime,
         noted: &mut NotedStore<S>,
-    ) -> Result<(), Failure> {
+    ) -> Result<(), Failure>
+        ensures { Looks S.Store noted.old noted.new }
+    {
         if self.typed.is_empty() {
             return tell_untold(rt, noted, self.volume, &self.told);
         }
@@ -450,7 +453,10 @@ impl<'n> PrintedCertificates<'n> {
 
     /// What it came to: `BadData` where something stands against an event, and where a number is asked for of whose record no
     /// event tells that it was destroyed. Both are told.
-    fn end(&self, rt: &HostRuntime) -> Result<(), Failure> {
+    fn end(&self, rt: &HostRuntime) -> Result<(), Failure>
+        ensures sound { OnOk result (is_none self.now.watch.fault ≡ true) }
+        ensures met { OnOk result (self.now.missing.rest.items ≡ []) }
+    {
         self.watch.end(rt.alloc())?;
         if self
             .missing
@@ -473,16 +479,22 @@ fn certificates_to<'n, S: Alter, K: Sink + Drop>(
     ensures looks { Looks S.Store noted.old noted.new }
     ensures certified { IfOk result (λ printed. ForArchive S.Store noted.old noted.new (λ a ls.
         WritesCertificates K.written volume typed.now sink (rows_of ls) printed.1)) }
+    ensures judged { IfOk result (λ printed. ForArchive S.Store noted.old noted.new (λ a ls.
+        Watches printed.0.watch (rows_of ls))) }
+    ensures met { IfOk result (λ printed. ForArchive S.Store noted.old noted.new (λ a ls.
+        LeavesUncertified typed.now (rows_of ls) printed.0.missing.rest.items)) }
 {
     let mut messages = messages_of(rt, noted, typed)?;
     find_seals(rt, noted, &mut messages)?;
+    let watch = Watch::new(rt.alloc(), volume)?;
+    let missing = Missing::of(rt.alloc(), typed)?;
     let mut printed = PrintedCertificates {
         volume,
         typed,
         messages,
-        watch: Watch::new(rt.alloc(), volume)?,
+        watch,
         titles: Titles::none(rt.alloc()),
-        missing: Missing::of(rt.alloc(), typed)?,
+        missing,
         told: BTreeSet::new(rt.alloc()),
     };
     let mut sink = sink;
@@ -500,7 +512,13 @@ pub fn write_certificates<S: Alter>(
     noted: &mut NotedStore<S>,
     volume: Option<u32>,
     typed: &[TypedNumbers],
-) -> Result<(), Failure> {
+) -> Result<(), Failure>
+    ensures looks { Looks S.Store noted.old noted.new }
+    ensures lawful { OnOk result
+        (ForArchive S.Store noted.old noted.new (λ a ls. IsLawful ls)) }
+    ensures met { OnOk result
+        (ForArchive S.Store noted.old noted.new (λ a ls. CertifiesEach typed.now (rows_of ls))) }
+{
     let output = StandardOutput::new(rt);
     let (printed, _output) = certificates_to(rt, noted, volume, typed, output)?;
     printed.tell_untold(rt, noted)?;

@@ -1,5 +1,10 @@
 //! Numbers that are asked for, and of which nothing is told.
 
+ghost use Rattle.std.specs.Prelude.{◌≡◌, [], IfOk, OnOk, filter, not, true};
+ghost use Rattle.record_history.specs.Views.{deed_view};
+ghost use Rattle.cli_history.specs.Chosen.{meets};
+ghost use Rattle.cli_history.specs.Missing.{unmet_after};
+
 use crate::chosen::{any_touches, records_of, touches};
 use choice_words::TypedNumbers;
 use cli_console::{Failure, put_typed, tell};
@@ -33,7 +38,9 @@ fn without(
     typed: &[TypedNumbers],
     first: u32,
     last: u32,
-) -> Result<Vec<TypedNumbers>, AllocError> {
+) -> Result<Vec<TypedNumbers>, AllocError>
+    ensures { IfOk result (λ v. v.items ≡ filter (λ w. not (meets first last w)) typed.now) }
+{
     let mut rest = Vec::new(alloc);
     for numbers in typed {
         if !touches(numbers, first, last) {
@@ -45,7 +52,9 @@ fn without(
 
 impl Missing {
     /// All of the numbers that are typed.
-    pub fn of(alloc: Global, typed: &[TypedNumbers]) -> Result<Missing, AllocError> {
+    pub fn of(alloc: Global, typed: &[TypedNumbers]) -> Result<Missing, AllocError>
+        ensures { IfOk result (λ m. m.rest.items ≡ typed.now) }
+    {
         Ok(Missing {
             alloc,
             rest: Vec::from_slice(alloc, typed)?,
@@ -53,7 +62,10 @@ impl Missing {
     }
 
     /// Notes that an event of a deed was met.
-    pub fn meet(&mut self, deed: &Deed<'_>) -> Result<(), AllocError> {
+    pub fn meet(&mut self, deed: &Deed<'_>) -> Result<(), AllocError>
+        ensures { OnOk result
+            (self.new.rest.items ≡ unmet_after self.old.rest.items (deed_view deed.now)) }
+    {
         let Some((first, last)) = records_of(deed) else {
             return Ok(());
         };
@@ -69,7 +81,9 @@ impl Missing {
         rt: &HostRuntime,
         volume: Option<u32>,
         words: &'static str,
-    ) -> Result<bool, Failure> {
+    ) -> Result<bool, Failure>
+        ensures { IfOk result (λ is_all_met. is_all_met ≡ true → self.now.rest.items ≡ []) }
+    {
         for typed in &self.rest {
             tell(rt, &missed(rt.alloc(), volume, *typed, words)?);
         }

@@ -1,6 +1,6 @@
 //! `history`: what was done to an archive.
 
-ghost use Rattle.std.specs.Prelude.{◌≡◌, ◌&&◌, ◌∷◌, [], None, Some, false, not, true, IfOk, OnOk, map, string_bytes};
+ghost use Rattle.std.specs.Prelude.{◌≡◌, ◌&&◌, ◌∷◌, [], None, Some, false, not, true, IfOk, OnOk, is_none, map, string_bytes};
 ghost use Rattle.record_history.specs.Spelled.{IsSpelledDeed};
 ghost use Rattle.record_history.specs.Views.{deed_view, event_view};
 ghost use Rattle.record_noted.specs.Histories.{rows_of};
@@ -8,7 +8,8 @@ ghost use Rattle.record_reads.specs.Events.{event_of as row_of};
 ghost use Rattle.cli_console.specs.Counts.{one_more};
 ghost use Rattle.cli_console.specs.Sinks.{Writes};
 ghost use Rattle.cli_history.specs.Chosen.{asks_for_all};
-ghost use Rattle.cli_history.specs.Printed.{AddsHistory, Begins, Ends, IsEventText, IsNew, IsObjectOf, PrintsRow, PrintsRows, end_of, head_unless, number_places as places_of};
+ghost use Rattle.cli_history.specs.Lawful.{IsLawful, Watches};
+ghost use Rattle.cli_history.specs.Printed.{AddsHistory, Begins, Ends, IsEventText, IsNew, IsObjectOf, LeavesUnmet, MeetsAll, PrintsRow, PrintsRows, WritesHistory, end_of, head_unless, number_places as places_of};
 ghost use Rattle.cli_history.specs.Tellings.{is_told_as_bad};
 ghost use Rattle.cli_history.specs.Walks.{ForArchive, Looks};
 
@@ -233,6 +234,10 @@ impl<K: Sink + Drop> HistoryText<K> {
         ensures looks { Looks S.Store noted.old noted.new }
         ensures added { OnOk result (ForArchive S.Store noted.old noted.new (λ a ls.
             AddsHistory K.written volume asked.now self.old (rows_of ls) self.new)) }
+        ensures judged { IfOk result (λ p. ForArchive S.Store noted.old noted.new
+            (λ a ls. Watches p.watch (rows_of ls))) }
+        ensures met { IfOk result (λ p. ForArchive S.Store noted.old noted.new (λ a ls.
+            LeavesUnmet asked.now self.old.is_json (rows_of ls) p.missing.rest.items)) }
     {
         self.begin()?;
         let mut printing = PrintedHistory::of(rt.alloc(), volume, asked)?;
@@ -262,6 +267,8 @@ impl<'q, 'a> PrintedHistory<'q, 'a> {
         ensures asked { IfOk result (λ p. p.asked.now ≡ asked.now) }
         ensures volume { IfOk result (λ p. p.volume ≡ volume) }
         ensures there { IfOk result (λ p. p.is_there ≡ false) }
+        ensures judged { IfOk result (λ p. Watches p.watch []) }
+        ensures typed { IfOk result (λ p. p.missing.rest.items ≡ asked.now.numbers.items) }
     {
         Ok(PrintedHistory {
             asked,
@@ -379,7 +386,11 @@ impl<'q, 'a> PrintedHistory<'q, 'a> {
 
     /// What it came to: `BadData` where something stands against an event, and where a number is asked for of which no event
     /// tells. Both are told.
-    pub fn end(&self, rt: &HostRuntime) -> Result<(), Failure> {
+    pub fn end(&self, rt: &HostRuntime) -> Result<(), Failure>
+        ensures sound { OnOk result (is_none self.now.watch.fault ≡ true) }
+        ensures read { OnOk result (self.now.is_any_unread ≡ false) }
+        ensures met { OnOk result (self.now.missing.rest.items ≡ []) }
+    {
         self.watch.end(rt.alloc())?;
         let is_all_met = self.missing.tell(rt, self.volume, unmet_words(self.asked))?;
         if self.is_any_unread || !is_all_met {
@@ -389,6 +400,28 @@ impl<'q, 'a> PrintedHistory<'q, 'a> {
     }
 }
 
+/// Prints the events of a history that are asked for to a sink, between what stands before and after all events. Answers what the
+/// history came to as it was read, and the sink.
+fn history_to<'q, 'a, S: Alter, K: Sink + Drop>(
+    rt: &HostRuntime,
+    noted: &mut NotedStore<S>,
+    asked: &'q HistoryAsked<'a>,
+    sink: K,
+) -> Result<(PrintedHistory<'q, 'a>, K), Failure>
+    ensures looks { Looks S.Store noted.old noted.new }
+    ensures prints { IfOk result (λ printed. ForArchive S.Store noted.old noted.new (λ a ls.
+        WritesHistory K.written None asked.now sink (rows_of ls) printed.1)) }
+    ensures judged { IfOk result (λ printed. ForArchive S.Store noted.old noted.new (λ a ls.
+        Watches printed.0.watch (rows_of ls))) }
+    ensures met { IfOk result (λ printed. ForArchive S.Store noted.old noted.new (λ a ls.
+        LeavesUnmet asked.now asked.now.is_json (rows_of ls) printed.0.missing.rest.items)) }
+{
+    let mut text = HistoryText::new(asked.is_json, sink);
+    let printing = text.add_history(rt, noted, None, asked)?;
+    let output = text.end()?;
+    Ok((printing, output))
+}
+
 /// Prints the events of a history that are asked for, a line each as it is hashed, or as an array of JSON objects. The events
 /// are judged as they are read. `BadData` in the end where something stands against one, which is told, and where a number is
 /// asked for of whose record no such event tells.
@@ -396,9 +429,14 @@ pub fn write_history<S: Alter>(
     rt: &HostRuntime,
     noted: &mut NotedStore<S>,
     asked: &HistoryAsked<'_>,
-) -> Result<(), Failure> {
-    let mut text = HistoryText::new(asked.is_json, StandardOutput::new(rt));
-    let printing = text.add_history(rt, noted, None, asked)?;
-    let _output = text.end()?;
+) -> Result<(), Failure>
+    ensures looks { Looks S.Store noted.old noted.new }
+    ensures lawful { OnOk result
+        (ForArchive S.Store noted.old noted.new (λ a ls. IsLawful ls)) }
+    ensures met { OnOk result
+        (ForArchive S.Store noted.old noted.new (λ a ls. MeetsAll asked.now (rows_of ls))) }
+{
+    let output = StandardOutput::new(rt);
+    let (printing, _output) = history_to(rt, noted, asked, output)?;
     printing.end(rt)
 }

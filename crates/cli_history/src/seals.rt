@@ -1,7 +1,7 @@
 //! The seals of messages, by which one that was altered in the file is known. The titles of classes are kept beside them, since
 //! one walk over the events finds both.
 
-ghost use Rattle.std.specs.Prelude.{◌≡◌, ◌==◌, ◌++◌, ℕ, None, Some, Option, List, [], map, true, IfOk, OnOk, if◌then◌else◌, option_map};
+ghost use Rattle.std.specs.Prelude.{◌≡◌, ◌==◌, ◌++◌, ℕ, None, Some, Option, List, [], map, true, false, IfOk, OnOk, if◌then◌else◌, option_map, position};
 ghost use Rattle.sqlite.specs.State.{HasCleanDisk};
 ghost use Rattle.sqlite.specs.Held.{state};
 ghost use Rattle.record_tables.specs.Events.{Event as Row};
@@ -11,6 +11,7 @@ ghost use Rattle.record_history.specs.Events.{Event as PlainEvent};
 ghost use Rattle.record_history.specs.Replay.{seal as seal_of_octets};
 ghost use Rattle.record_history.specs.Titles.{last_title, title_given};
 ghost use Rattle.record_history.specs.Views.{deed_view, seal_view};
+ghost use Rattle.cli_history.specs.OneSeal.{AreBeginnings, IsEnoughFor, IsSealIn, TakesSeal, TellsNoSeal, begins_for, behind_blank};
 ghost use Rattle.cli_history.specs.Seals.{fidelity as fidelity_to, is_seal, known, later, length_and_sum as length_and_sum_of, sealed_by};
 ghost use Rattle.record_noted.specs.Histories.{rows_of};
 ghost use Rattle.record_store.specs.Stores.{StandsFor};
@@ -21,7 +22,7 @@ ghost use Rattle.cli_history.specs.Walks.{Glances, HasLines, KeepsLinesIn};
 use crate::pages::Events;
 use crate::titles::Titles;
 use cli_console::Failure;
-use record_history::{Deed, Event, LineFault, Seal, read_line, seal_of};
+use record_history::{Deed, Event, LineFault, Seal, lines_have_one_reading, read_line, seal_of};
 use record_store::{EventLayout, EventRow, Store};
 use sqlite::Alter;
 use std::alloc::{AllocError, Global};
@@ -92,21 +93,28 @@ impl Drop for Beginnings {
     }
 }
 
+/// Where the first blank of a text stands, if there is one.
+fn blank_in(text: &[u8]) -> Option<usize>
+    ensures { result ≡ position (λ o. o == 32) text.now }
+{
+    text.iter().position(|octet| *octet == b' ')
+}
+
 /// What follows the first blank of a text; nothing where there is none.
-pub(crate) fn after_blank(text: &[u8]) -> &[u8] {
-    let blank = text
-        .iter()
-        .position(|octet| *octet == b' ')
-        .unwrap_or(text.len());
-    match text[blank..].split_first() {
-        Some((_, rest)) => rest,
+pub(crate) fn after_blank(text: &[u8]) -> &[u8]
+    ensures { result.now ≡ behind_blank text.now }
+{
+    match blank_in(text) {
+        Some(blank) => &text[blank + 1..],
         None => b"",
     }
 }
 
 impl Beginnings {
     /// Those of the deeds that tell the seal of the message with a number.
-    fn of(alloc: Global, message: u32) -> Result<Beginnings, AllocError> {
+    fn of(alloc: Global, message: u32) -> Result<Beginnings, AllocError>
+        ensures { IfOk result (AreBeginnings message) }
+    {
         Ok(Beginnings {
             captured: format!(in alloc; "captured {message} ")?,
             found: format!(in alloc; "found message {message} ")?,
@@ -114,7 +122,9 @@ impl Beginnings {
     }
 
     /// Whether the line of an event can tell that seal: by what follows the number of the event, its moment and who did it.
-    fn are_those_of(&self, line: &[u8]) -> bool {
+    fn are_those_of(&self, line: &[u8]) -> bool
+        ensures { result ≡ begins_for self.now line.now }
+    {
         let deed = after_blank(after_blank(after_blank(line)));
         deed.starts_with(self.captured.as_bytes()) || deed.starts_with(self.found.as_bytes())
     }
@@ -229,8 +239,11 @@ impl Seals {
 
     /// Notes what an event tells. The only refusal is no memory.
     fn take_row(&mut self, alloc: Global, row: &EventRow) -> Result<(), AllocError>
-        ensures { OnOk result (TakesRow (row_of row.now) self.old self.new) }
+        ensures takes { OnOk result (TakesRow (row_of row.now) self.old self.new) }
+        ensures seal { (message : ℕ) →
+            OnOk result (TakesSeal message (row_of row.now) self.old self.new) }
     {
+        lines_have_one_reading();
         let told = deed_of(alloc, row)?;
         match told {
             Some(deed) => Ok(self.take(row.number, deed)?),
@@ -245,7 +258,10 @@ impl Seals {
         row: &EventRow,
         only: Option<&Beginnings>,
     ) -> Result<(), AllocError>
-        ensures { only.entry ≡ None → OnOk result (TakesRow (row_of row.now) self.old self.new) }
+        ensures takes { only.entry ≡ None →
+            OnOk result (TakesRow (row_of row.now) self.old self.new) }
+        ensures seal { (message : ℕ) → IsEnoughFor message only.entry →
+            OnOk result (TakesSeal message (row_of row.now) self.old self.new) }
     {
         if is_asked(only, row) {
             return self.take_row(alloc, row);
@@ -254,15 +270,17 @@ impl Seals {
     }
 
     /// Notes what the events of a page tell: all of them, or those whose deeds begin so.
-    #[tactic(auto, using(crate::proofs::TellingLemmas::page_laws))]
     fn take_page(
         &mut self,
         alloc: Global,
         page: &[EventRow],
         only: Option<&Beginnings>,
     ) -> Result<(), AllocError>
-        ensures { only.entry ≡ None → (rows : List Row) → AreTold self.old rows
+        ensures told { only.entry ≡ None → (rows : List Row) → AreTold self.old rows
             → OnOk result (AreTold self.new (rows ++ map row_of page.now)) }
+        ensures seal { (message : ℕ) → IsEnoughFor message only.entry → (rows : List Row)
+            → IsSealIn message self.old rows
+            → OnOk result (IsSealIn message self.new (rows ++ map row_of page.now)) }
     {
         for row in page {
             self.take_asked(alloc, row, only)?;
@@ -282,6 +300,11 @@ impl Seals {
             HasCleanDisk (state S.Store archive.new.conn) → (a : Archive) → (ls : List (List ℕ))
             → StandsFor S.Store archive.old a → HasLines S.Store archive.old ls
             → OnOk result (AreTold self.new (rows_of ls)) }
+        ensures seal { (message : ℕ) → IsEnoughFor message only.entry →
+            IsSealIn message self.old [] → HasCleanDisk (state S.Store archive.new.conn) →
+            (a : Archive) → (ls : List (List ℕ)) → StandsFor S.Store archive.old a →
+            HasLines S.Store archive.old ls →
+            OnOk result (IsSealIn message self.new (rows_of ls)) }
     {
         let mut events = Events::all();
         for _ in 0..u64::MAX {
@@ -303,6 +326,11 @@ impl Seals {
         ensures told { only.entry ≡ None → HasCleanDisk (state S.Store archive.new.conn)
             → (a : Archive) → (ls : List (List ℕ)) → StandsFor S.Store archive.old a
             → KeepsLinesIn S.Store archive.old ls → IfOk result (λ s. AreTold s (rows_of ls)) }
+        ensures seal { (message : ℕ) → IsEnoughFor message only.entry →
+            HasCleanDisk (state S.Store archive.new.conn) → (a : Archive) →
+            (ls : List (List ℕ)) → StandsFor S.Store archive.old a →
+            KeepsLinesIn S.Store archive.old ls →
+            IfOk result (λ s. IsSealIn message s (rows_of ls)) }
     {
         let mut seals = Seals::none(rt.alloc());
         if !has_events(archive.event_layout()) {
@@ -323,13 +351,17 @@ impl Seals {
         Seals::read(rt, archive, None)
     }
 
-    /// The same, of one message alone and without titles.
+    /// The same, of one message alone and without titles: the seal that the history tells of it last, if it tells one.
     pub fn of_message<S: Alter>(
         rt: &HostRuntime,
         archive: &mut Store<S>,
         message: u32,
     ) -> Result<Seals, Failure>
-        ensures { Glances S.Store archive.old archive.new }
+        ensures glances { Glances S.Store archive.old archive.new }
+        ensures seal { HasCleanDisk (state S.Store archive.new.conn) → (a : Archive)
+            → (ls : List (List ℕ)) → StandsFor S.Store archive.old a
+            → KeepsLinesIn S.Store archive.old ls
+            → IfOk result (λ s. IsSealIn message s (rows_of ls)) }
     {
         let deeds = Beginnings::of(rt.alloc(), message)?;
         Seals::read(rt, archive, Some(&deeds))
@@ -345,8 +377,11 @@ fn has_events(layout: EventLayout) -> bool
 
 /// Whether an event is asked for: any event, or one whose deed begins so.
 fn is_asked(only: Option<&Beginnings>, row: &EventRow) -> bool
-    ensures { only.entry ≡ None → result ≡ true }
+    ensures all { only.entry ≡ None → result ≡ true }
+    ensures passed { (message : ℕ) → IsEnoughFor message only.entry → result ≡ false
+        → TellsNoSeal message (row_of row.now) }
 {
+    let _number = row.number;
     match only {
         Some(deeds) => deeds.are_those_of(row.line.as_slice()),
         None => true,

@@ -1,5 +1,7 @@
 //! Records that are destroyed, and of which no event tells that.
 
+ghost use Rattle.cli_history.specs.Walks.{Looks};
+
 use crate::pages::Entries;
 use choice_words::{TypedNumbers, add_number};
 use cli_console::{Failure, put_typed, tell};
@@ -29,7 +31,9 @@ fn untold_of<S: Alter>(
     rt: &HostRuntime,
     noted: &mut NotedStore<S>,
     told: &BTreeSet<u32>,
-) -> Result<Vec<TypedNumbers>, Failure> {
+) -> Result<Vec<TypedNumbers>, Failure>
+    ensures { Looks S.Store noted.old noted.new }
+{
     let mut untold = Vec::new(rt.alloc());
     let mut entries = Entries::all();
     for _ in 0..u64::MAX {
@@ -68,7 +72,9 @@ pub fn tell_untold<S: Alter>(
     noted: &mut NotedStore<S>,
     volume: Option<u32>,
     told: &BTreeSet<u32>,
-) -> Result<(), Failure> {
+) -> Result<(), Failure>
+    ensures { Looks S.Store noted.old noted.new }
+{
     let untold = untold_of(rt, noted, told)?;
     if !untold.is_empty() {
         tell(rt, &untold_words(rt.alloc(), volume, untold.as_slice())?);

@@ -1,7 +1,10 @@
 //! A history that is judged while its events are read.
 
-ghost use Rattle.std.specs.Prelude.{◌≡◌, ◌++◌, ◌∷◌, ℕ, [], List, None, true, IfOk, is_none, is_ok};
+ghost use Rattle.std.specs.Prelude.{◌≡◌, ◌++◌, ◌∷◌, ℕ, [], List, None, true, IfOk, OnOk, is_none, is_ok};
 ghost use Rattle.record_judge.specs.Judging.{Judges};
+ghost use Rattle.record_reads.specs.Events.{event_of as row_of};
+ghost use Rattle.record_tables.specs.Events.{Event as Row};
+ghost use Rattle.cli_history.specs.Lawful.{Watches};
 
 use crate::flaws::words_at;
 use cli_console::{Failure, Status, tell_in};
@@ -61,6 +64,8 @@ impl Watch {
         ensures stays { IfOk result (λ b. b ≡ true → is_none self.old.fault ≡ true) }
         ensures judges { (ls : List (List ℕ)) → Judges self.old.judge ls → IfOk result
             (λ b. b ≡ true → Judges self.new.judge (ls ++ row.now.line.items ∷ [])) }
+        ensures watches { (rows : List Row) → Watches self.old rows
+            → OnOk result (Watches self.new (rows ++ row_of row.now ∷ [])) }
     {
         if self.fault.is_some() {
             return Ok(false);

@@ -1,5 +1,5 @@
 -- What is listed, exported and reported of the records of a choice, shown of a record, and listed of what was captured twice.
-use Rattle.std.specs.Prelude.{◌≡◌, ℕ, List, Ok, Some}
+use Rattle.std.specs.Prelude.{◌≡◌, ℕ, List, Ok, Option, Some, true}
 use Rattle.sqlite.specs.State.{HasCleanDisk}
 use Rattle.sqlite.specs.Store.{Ghosts}
 use Rattle.sqlite.specs.Held.{Held, state}
@@ -8,15 +8,21 @@ use Rattle.choice_words.specs.declared.choice.Choice.{Choice}
 use Rattle.command_lines.specs.declared.archives.Listing.{Listing}
 use Rattle.record_archive.specs.Archive.{Archive, message}
 use Rattle.record_choice.specs.Reads.{OnlyReads}
+use Rattle.record_choice.specs.declared.entry.RecordEntry.{RecordEntry}
+use Rattle.record_history.specs.Events.{Seal}
+use Rattle.record_history.specs.Replay.{seal}
 use Rattle.record_store.specs.Stores.{StandsFor}
 use Rattle.record_store.specs.declared.store.Store.{Store}
 use Rattle.cli_choice.specs.declared.questions.Questions.{Questions}
 use Rattle.cli_console.specs.Finds.{HasSingles, found_in}
+use Rattle.cli_history.specs.OneSeal.{TellsLast}
+use Rattle.cli_history.specs.Seals.{fidelity}
 use Rattle.cli_history.specs.Tellings.{AreSealsOf}
 use Rattle.cli_history.specs.declared.seals.Seals.{Seals}
 use Rattle.cli_readings.specs.Exports.{ExportsFound}
 use Rattle.cli_readings.specs.Lists.{WritesList}
 use Rattle.cli_readings.specs.Reports.{IsReportBy, ReportsMore}
+use Rattle.cli_readings.specs.Shows.{IsEntryOf, is_unaltered}
 use Rattle.cli_readings.specs.Twice.{WritesTwice}
 use Rattle.cli_readings.specs.VolumeExports.{unseen}
 use Rattle.cli_readings.specs.VolumeReads.{ReadsFound, TakesFound}
@@ -78,6 +84,25 @@ pub record ReportsOf {S : Type 0} (g : Ghosts S) (day : Date) (choice : Choice) 
 abbrev pub ShowsOf : {S : Type 0} → Ghosts S → (number : ℕ) → (octets : List ℕ) → (before : Store S) → (after : Held S) → Type 0
 ShowsOf g number octets before after =
     HasCleanDisk (state g after) → (a : Archive) → StandsFor g before a → message a number ≡ Ok (Some octets)
+
+-- THE OCTETS ARE THOSE THAT WERE CAPTURED as a message, by the seal that the history of a store tells of it last, if it tells one
+pub record AreCapturedIn {S : Type 0} (g : Ghosts S) (store : Store S) (message : ℕ) (octets : List ℕ) : Type 0 where
+  pub last : Option (Seal × ℕ)
+  pub told : TellsLast g store message last
+  pub are : is_unaltered (fidelity last (seal octets)) ≡ true
+
+-- THE MESSAGE THAT IS SHOWN of the record with a number is the one that was captured: this is the store once the entry of the record is read
+pub record IsShown {S : Type 0} (g : Ghosts S) (number : ℕ) (octets : List ℕ) (a : Archive) : Type 0 where
+  pub entry : RecordEntry
+  pub is_entry : IsEntryOf a number entry
+  pub read : Store S
+  pub stands : StandsFor g read a
+  pub captured : AreCapturedIn g read entry.message octets
+
+-- the same of a store, of which this is left
+abbrev pub ShowsCaptured : {S : Type 0} → Ghosts S → (number : ℕ) → (octets : List ℕ) → (before : Store S) → (after : Held S) → Type 0
+ShowsCaptured g number octets before after =
+    HasCleanDisk (state g after) → (a : Archive) → StandsFor g before a → IsShown g number octets a
 
 -- ---- what was captured twice
 

@@ -1,12 +1,15 @@
 //! `show`: the message of a record.
 
 ghost use Rattle.std.specs.Prelude.{◌≡◌, IfOk, Ok, OnOk, Some, true};
-ghost use Rattle.record_archive.specs.Archive.{message};
+ghost use Rattle.sqlite.specs.State.{HasCleanDisk};
+ghost use Rattle.sqlite.specs.Held.{state};
+ghost use Rattle.record_archive.specs.Archive.{Archive, message};
 ghost use Rattle.record_choice.specs.Reads.{OnlyReads};
 ghost use Rattle.record_history.specs.Replay.{seal};
 ghost use Rattle.cli_history.specs.Seals.{fidelity, known};
 ghost use Rattle.cli_choice.specs.Reads.{IsReadOf};
-ghost use Rattle.cli_readings.specs.Chosen.{OnlyReadsStore, ShowsOf};
+ghost use Rattle.record_store.specs.Stores.{StandsFor};
+ghost use Rattle.cli_readings.specs.Chosen.{AreCapturedIn, OnlyReadsStore, ShowsCaptured, ShowsOf};
 ghost use Rattle.cli_readings.specs.Shows.{IsEntryOf, is_unaltered};
 
 use cli_console::{Failure, Status, write_data, write_text};
@@ -120,6 +123,9 @@ pub(crate) fn message_of_entry<S: Alter>(
     ensures reads { OnOk result (OnlyReadsStore S.Store archive.old archive.new) }
     ensures told { IfOk result (λ octets. ShowsOf S.Store entry.now.number octets.items archive.old
         archive.new.conn) }
+    ensures captured { IfOk result (λ octets. HasCleanDisk (state S.Store archive.new.conn)
+        → (a : Archive) → StandsFor S.Store archive.old a
+        → AreCapturedIn S.Store archive.old entry.now.message octets.items) }
 {
     let seals = Seals::of_message(rt, archive, entry.message)?;
     let octets = octets_of(rt.alloc(), archive, typed, entry, &seals)?;
@@ -136,6 +142,8 @@ pub fn message_of_record<S: Alter>(
     ensures reads { OnOk result (OnlyReadsStore S.Store archive.old archive.new) }
     ensures told { IfOk result (λ octets. ShowsOf S.Store typed.entry.number octets.items
         archive.old archive.new.conn) }
+    ensures captured { IfOk result (λ octets. ShowsCaptured S.Store typed.entry.number
+        octets.items archive.old archive.new.conn) }
 {
     let entry = entry_of(rt.alloc(), archive, typed)?;
     let message = message_of_entry(rt, archive, typed, &entry)?;

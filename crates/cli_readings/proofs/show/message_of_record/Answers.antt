@@ -18,3 +18,12 @@ returns-clause-told g c = λ clean (a : Archive) s.
     let own : c.in_ok-entry.entry.number ≡ number = ap (λ (e : RecordEntry). e.number) told.2 ∙ found_has number a.records told.0 told.1 in
     subst (λ n. message a n ≡ Ok (Some c.in_ok-message.message.items)) own
     (c.in_ok-message.ensures.told clean a (c.entry_of.ensures.reads.stands a s))
+
+pub returns-clause-captured : goal.returns-clause-captured
+returns-clause-captured g c = λ clean (a : Archive) s. record {
+  entry = c.in_ok-entry.entry;
+  is_entry = c.in_ok-entry.ensures.told (c.in_ok-message.ensures.reads.falls clean) a s;
+  read = c.entry_of.new.archive;
+  stands = c.entry_of.ensures.reads.stands a s;
+  captured = c.in_ok-message.ensures.captured clean a (c.entry_of.ensures.reads.stands a s);
+}

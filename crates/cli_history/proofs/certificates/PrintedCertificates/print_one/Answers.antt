@@ -15,7 +15,7 @@ pub returns-in_default-clause-certified : goal.returns-in_default-clause-certifi
 returns-in_default-clause-certified g c =
     let was = c.args.self.now in
     row_passed g.K.Sink.written was was c.args.sink.now (event_of c.args.row.now) None
-    (subst (λ o. TellsRow (event_of c.args.row.now) (option_map event_view o)) c.in_default.is c.in_ok-event.ensures.tells) refl refl refl
+    (subst (λ o. TellsRow (event_of c.args.row.now) (option_map event_view o)) c.in_default.is c.in_ok-event.ensures.tells) refl refl refl refl refl
 
 -- no certificate is asked of the one that it tells
 pub returns-in_default-destroyed_in-clause-certified : goal.returns-in_default-destroyed_in-clause-certified
@@ -25,7 +25,7 @@ returns-in_default-destroyed_in-clause-certified g c =
     let event = event_view c.in-Some.event in
     row_passed g.K.Sink.written was (record was { titles = c.take.new.self }) c.args.sink.now row (Some event)
     (subst (λ o. TellsRow row (option_map event_view o)) c.in-Some.is c.in_ok-event.ensures.tells)
-    (ap (λ n. only (is_some n) (row, event)) (sym c.destroyed_in.ensures ∙ c.in_default-destroyed_in.is)) refl refl
+    (ap (λ n. only (is_some n) (row, event)) (sym c.destroyed_in.ensures ∙ c.in_default-destroyed_in.is)) refl refl refl refl
 
 -- one is asked for, and written
 pub returns-in-Some-2-clause-certified : goal.returns-in-Some-2-clause-certified
@@ -41,4 +41,4 @@ returns-in-Some-2-clause-certified g c =
     row_certified g.K.Sink.written was is c.args.sink.now c.write.new.self row event c.in-Some-destroyed_in.number text tells
     (sym c.destroyed_in.ensures ∙ c.in-Some-destroyed_in.is) is_certificate
     (subst (λ t. Writes g.K.Sink.written c.args.sink.now c.write.new.self t) (c.as_bytes.ensures.value ∙ c.as_str.ensures.exact) writes) refl
-    refl) c.write.ensures
+    refl refl c.in_ok-meet.ensures) c.write.ensures

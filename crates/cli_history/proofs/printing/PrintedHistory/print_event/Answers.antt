@@ -12,7 +12,7 @@ returns-then-not-is_asked g c =
     row_passed g.K.Sink.written was (record was { is_there = c.is_there_after-self.result }) c.args.text.now (event_of c.args.row.now)
     (Some (event_view c.args.event.now)) (sym c.is_asked.ensures ∙ c.if-not-is_asked.true)
     (c.is_there_after-self.ensures ∙ ap (λ ns. is_there_after ns was.is_there (event_view c.args.event.now).deed) c.as_slice.ensures.value)
-    (record { asked = refl; volume = refl })
+    (record { asked = refl; volume = refl }) refl refl
 
 pub returns : goal.returns
 returns g c =
@@ -27,4 +27,4 @@ returns g c =
     row_printed g.K.Sink.written was is text c.push.new.self row (Some event) c.as_str.result.now
     (sym c.is_asked.ensures ∙ c.if-not-is_asked.false) is_text writes rest
     (c.is_there_after-self.ensures ∙ ap (λ ns. is_there_after ns was.is_there event.deed) c.as_slice.ensures.value)
-    (record { asked = refl; volume = refl }))
+    (record { asked = refl; volume = refl }) refl c.in_ok-meet.ensures)

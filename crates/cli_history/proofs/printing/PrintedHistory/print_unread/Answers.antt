@@ -9,7 +9,7 @@ pub returns-then-not-prints_unread-clause-printed : goal.returns-then-not-prints
 returns-then-not-prints_unread-clause-printed g c =
     let was = c.args.self.now in
     row_passed g.K.Sink.written was (record was { is_any_unread = true }) c.args.text.now (event_of c.args.row.now) None
-    (sym c.prints_unread.ensures ∙ c.if-not-prints_unread.true) refl (record { asked = refl; volume = refl })
+    (sym c.prints_unread.ensures ∙ c.if-not-prints_unread.true) refl (record { asked = refl; volume = refl }) refl refl
 
 pub returns-clause-printed : goal.returns-clause-printed
 returns-clause-printed g c =
@@ -22,4 +22,4 @@ returns-clause-printed g c =
     ∙ ap₂ (λ places line. history_text (line_in was.volume places line)) c.none-places.ensures c.as_slice.ensures.value) in
     on_ok_both c.push.result c.push.ensures.added c.push.ensures.rest (λ writes rest.
     row_printed g.K.Sink.written was (record was { is_any_unread = true }) text c.push.new.self row None c.as_str.result.now asked is_text
-    writes rest refl (record { asked = refl; volume = refl }))
+    writes rest refl (record { asked = refl; volume = refl }) refl refl)

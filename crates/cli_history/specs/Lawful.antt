@@ -1,0 +1,22 @@
+-- A history all events of which are lawful, and one that is judged while it is read.
+use Rattle.std.specs.Prelude.{◌≡◌, ℕ, true, List, map, Some, is_none}
+use Rattle.record_archive.specs.Archive.{Archive, empty_archive}
+use Rattle.record_history.specs.Events.{Event}
+use Rattle.record_history.specs.Lines.{lines_from}
+use Rattle.record_history.specs.Replay.{replay}
+use Rattle.record_judge.specs.Judging.{AreTrueFrom, Judges}
+use Rattle.record_tables.specs.Events.{Event as Row}
+use Rattle.cli_history.specs.declared.watching.Watch.{Watch}
+
+-- THE HISTORY OF THESE LINES IS LAWFUL: they are those of events, numbered from 1 on; the archive allows each when it comes, and each
+-- destruction tells the schedule of the record's class
+pub record IsLawful (ls : List (List ℕ)) : Type 0 where
+  pub events : List Event
+  pub lines : ls ≡ lines_from 1 events
+  pub archive : Archive
+  pub replayed : replay events empty_archive ≡ Some archive
+  pub told_truly : AreTrueFrom empty_archive events
+
+-- unless something stands against one of the rows that were read, the judge has seen the lines of all of them
+abbrev pub Watches : Watch → List Row → Type 0
+Watches watch rows = is_none watch.fault ≡ true → Judges watch.judge (map (λ (r : Row). r.line) rows)
