@@ -1,4 +1,5 @@
 pub mod Adopting
 pub mod Finding
 pub mod Names
+pub mod Rows
 pub mod Sheets

@@ -1,7 +1,6 @@
 //! Why there is no archive of volumes, in words.
 
 use crate::names::volume_name;
-use record_volumes::RowFault;
 use std::alloc::{AllocError, AllocFailed, Global};
 use std::{fmt, io};
 
@@ -60,15 +59,6 @@ impl From<AllocError> for NoVolumes {
 impl<T: Drop> From<AllocFailed<T>> for NoVolumes {
     fn from(_error: AllocFailed<T>) -> NoVolumes {
         NoVolumes::NoMemory
-    }
-}
-
-impl From<RowFault> for NoVolumes {
-    fn from(fault: RowFault) -> NoVolumes {
-        match fault {
-            RowFault::Missing(volumes) => NoVolumes::Missing(volumes),
-            RowFault::NoMemory => NoVolumes::NoMemory,
-        }
     }
 }
 

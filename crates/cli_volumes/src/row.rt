@@ -1,13 +1,14 @@
 //! The row of the volumes in a folder, and its lock.
 
-ghost use Rattle.std.specs.Prelude.{◌≤◌, IfOk};
+ghost use Rattle.std.specs.Prelude.{◌≡◌, ◌≤◌, ◌∷◌, ◌++◌, [], ℕ, List, IfOk, OnOk};
+ghost use Rattle.cli_volumes.specs.Rows.{volumes_in};
 
 use crate::fault::NoVolumes;
+use crate::listing::{Judged, ListedFolder, judge_folder};
 use crate::names::{path_in, path_of, volume_of};
 use crate::sheet::{Sheet, read_sheet};
-use record_volumes::judge_row;
 use std::alloc::AllocError;
-use std::fs::{self, File, OpenOptions};
+use std::fs::{self, DirEntry, File, OpenOptions};
 use std::io::{self, ErrorKind, Read};
 use std::os::unix::fs::OpenOptionsExt;
 
@@ -76,19 +77,36 @@ pub(crate) fn sheet_in(rt: &HostRuntime, folder: &str) -> Result<Sheet, NoVolume
     read_sheet(rt.alloc(), octets.as_slice())?.ok_or(NoVolumes::Damaged)
 }
 
+/// Adds the number of the volume that a name names, if it names one.
+fn add_named(volumes: &mut Vec<u32>, name: &[u8]) -> Result<(), AllocError>
+    ensures { OnOk result (volumes.new.items ≡ volumes.old.items ++ volumes_in (name.now ∷ [])) }
+{
+    match volume_of(name) {
+        Some(volume) => volumes.push(volume)?,
+        None => {}
+    }
+    Ok(())
+}
+
+/// Adds the number of the volume that an entry of a folder names, if it names one. A name that is none of a file here is passed over.
+fn add_entry(volumes: &mut Vec<u32>, entry: io::Result<DirEntry>) -> io::Result<()>
+    ensures { OnOk result ((names : List (List ℕ))
+        × (volumes.new.items ≡ volumes.old.items ++ volumes_in names)) }
+{
+    match entry {
+        Ok(entry) => Ok(add_named(volumes, entry.file_name().as_bytes())?),
+        Err(error) if error.kind() == ErrorKind::InvalidFilename => Ok(()),
+        Err(error) => Err(error),
+    }
+}
+
 /// The numbers of the volumes whose names a folder has. Other names are passed over.
-fn volumes_named(rt: &HostRuntime, folder: &str) -> io::Result<Vec<u32>> {
+fn volumes_named(rt: &HostRuntime, folder: &str) -> io::Result<Vec<u32>>
+    ensures { IfOk result (λ volumes. (names : List (List ℕ)) × (volumes.items ≡ volumes_in names)) }
+{
     let mut volumes = Vec::new(rt.alloc());
     for entry in fs::read_dir(rt, folder)? {
-        match entry {
-            Ok(entry) => {
-                if let Some(volume) = volume_of(entry.file_name().as_bytes()) {
-                    volumes.push(volume)?;
-                }
-            }
-            Err(error) if error.kind() == ErrorKind::InvalidFilename => {}
-            Err(error) => return Err(error),
-        }
+        add_entry(&mut volumes, entry)?;
     }
     Ok(volumes)
 }
@@ -121,16 +139,36 @@ fn judge_log(rt: &HostRuntime, folder: &str, volume: u32) -> Result<(), NoVolume
     }
 }
 
-/// Those of some volumes that are there. `LeftLog` where one is a link beside which its log lies, with a change.
-fn volumes_there(rt: &HostRuntime, folder: &str, named: &[u32]) -> Result<Vec<u32>, NoVolumes> {
-    let mut volumes = Vec::new(rt.alloc());
-    for volume in named {
-        if is_there(rt, folder, *volume)? {
-            judge_log(rt, folder, *volume)?;
-            volumes.push(*volume)?;
-        }
+/// A folder at a path.
+#[derive(Clone, Copy)]
+struct FolderAt<'a> {
+    rt: &'a HostRuntime,
+    path: &'a str,
+}
+
+impl ListedFolder for FolderAt<'_> {
+    ghost says = { λ _ _. Unit {0} };
+
+    ghost has = { λ _ _. Unit {0} };
+
+    ghost leads = { λ _ _ _. Unit {0} };
+
+    fn sheet(&self) -> Result<Sheet, NoVolumes> {
+        sheet_in(self.rt, self.path)
     }
-    Ok(volumes)
+
+    fn volumes_named(&self) -> Result<Vec<u32>, NoVolumes> {
+        let volumes = volumes_named(self.rt, self.path)?;
+        Ok(volumes)
+    }
+
+    fn is_there(&self, volume: u32) -> Result<bool, NoVolumes> {
+        if !is_there(self.rt, self.path, volume)? {
+            return Ok(false);
+        }
+        judge_log(self.rt, self.path, volume)?;
+        Ok(true)
+    }
 }
 
 /// Whether a folder is at a path.
@@ -163,13 +201,10 @@ pub fn has_volumes(rt: &HostRuntime, path: &str) -> Result<bool, AllocError> {
 pub fn row_in(rt: &HostRuntime, folder: &str) -> Result<Row, NoVolumes>
     ensures { IfOk result (λ row. 1 ≤ row.last) }
 {
-    let sheet = sheet_in(rt, folder)?;
-    let named = volumes_named(rt, folder)?;
-    let last = judge_row(rt.alloc(), sheet.begun, named.as_slice())?;
-    let there = volumes_there(rt, folder, named.as_slice())?;
-    match judge_row(rt.alloc(), last, there.as_slice())? {
-        0 => Err(NoVolumes::Unfinished),
-        last => Ok(Row { sheet, last }),
+    match judge_folder(rt.alloc(), &FolderAt { rt, path: folder })? {
+        Judged::Whole(row) => Ok(row),
+        Judged::Missing(volumes) => Err(NoVolumes::Missing(volumes)),
+        Judged::Empty => Err(NoVolumes::Unfinished),
     }
 }
 
