@@ -1,1 +1,9 @@
+pub mod Logs
+pub mod Officers
+pub mod Pieces
 pub mod Places
+pub mod Plans
+pub mod Reports
+pub mod Remarks
+pub mod Told
+pub mod Verdicts

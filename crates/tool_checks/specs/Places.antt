@@ -2,6 +2,7 @@
 use Rattle.std.specs.Prelude.{ℕ, Bool, false, List, Option, Some, None, option_and_then, option_map, ◌&&◌, not, if◌then◌else◌}
 use Rattle.std.specs.Str.{bytes_eq}
 use Rattle.rule_folders.specs.Paths.{path_of_name}
+use Rattle.rule_folders.specs.Reading.{Entry}
 use Rattle.tool_checks.specs.declared.reached.Start.{Start}
 
 -- a script's path, its name among the officer's own, and the folders of the scripts that it can include
@@ -36,3 +37,7 @@ place_of from name is_global =
     if is_global then path_within from.global name
     else if is_own_name from name then Some from.path
     else path_within from.personal name
+
+-- the script itself, with this text
+abbrev pub program_at : Start → (text : Option (List ℕ)) → Entry
+program_at s text = record { path = s.path.now; name = s.name.now; is_global = false; text = text }

@@ -1,11 +1,17 @@
 //! Warnings of includes that come back to a script that is still running, and of those that lead too deep.
 
+ghost use Rattle.std.specs.Prelude.{◌≡◌, OnOk};
+ghost use Rattle.tool_checks.specs.Told.{was_judged};
+ghost use Rattle.tool_checks.specs.Remarks.{Tells};
+
+use crate::output::Output;
+use crate::refusals::{Kind, Refusals};
 use crate::told::Told;
 use rule_folders::Reached;
 use std::alloc::{AllocError, Global};
-use tool_console::{Failure, push_place, write_line};
+use tool_console::{Failure, Verdict};
 use tool_findings::{Circle, Edge, Includes, includes_of};
-use tool_texts::{Shown, put};
+use tool_texts::{Shown, place_of, put};
 
 /// Adds the path of a script, as it is shown.
 fn push_path(text: &mut Shown, reached: &Reached, script: usize) -> Result<(), AllocError> {
@@ -58,74 +64,126 @@ fn name_of(alloc: Global, reached: &Reached, circle: &Circle) -> Result<Shown, A
     Ok(name)
 }
 
-/// Writes the warning of a circle, with its place.
-fn write_warning(rt: &HostRuntime, reached: &Reached, circle: &Circle) -> Result<(), Failure> {
-    let last = circle.scripts.last().copied().unwrap_or(0);
-    let mut line = Shown::new(rt.alloc());
-    push_place(&mut line, reached.path(last), reached.text(last), circle.at)?;
-    line.words("warning: this include comes back: ")?;
-    push_chain(&mut line, reached, circle.scripts.as_slice(), 0)?;
-    write_line(rt, &mut line)
+/// Writes a warning at an offset in the text of a script, by its number.
+fn write_warning<O: Output>(
+    output: &mut O,
+    alloc: Global,
+    reached: &Reached,
+    script: usize,
+    at: usize,
+    words: Shown,
+) -> Result<(), Failure>
+    ensures { OnOk result (Tells O.written output.old output.new Verdict.Good) }
+{
+    let place = place_of(reached.text(script), at);
+    let mut refusals = Refusals::new(alloc);
+    refusals.add(reached.path(script), Some(place), Kind::Note, words)?;
+    refusals.tell_to(output)?;
+    Ok(())
+}
+
+/// What is said of a circle.
+fn circle_words(alloc: Global, reached: &Reached, circle: &Circle) -> Result<Shown, AllocError> {
+    let mut words = Shown::new(alloc);
+    words.words("warning: this include comes back: ")?;
+    push_chain(&mut words, reached, circle.scripts.as_slice(), 0)?;
+    Ok(words)
 }
 
 /// Writes the warning of a circle, unless it was told before.
-fn warn_once(
-    rt: &HostRuntime,
+fn warn_once<O: Output>(
+    output: &mut O,
+    alloc: Global,
     reached: &Reached,
     circle: &Circle,
     told: &mut Told,
-) -> Result<(), Failure> {
-    let name = name_of(rt.alloc(), reached, circle)?;
-    if told.is_new(name.as_str().as_bytes())? {
-        write_warning(rt, reached, circle)?;
+) -> Result<(), Failure>
+    ensures tells { OnOk result (Tells O.written output.old output.new Verdict.Good) }
+    ensures judged { OnOk result (was_judged told.new ≡ was_judged told.old) }
+{
+    let name = name_of(alloc, reached, circle)?;
+    if !told.is_new(name.as_str().as_bytes())? {
+        return Ok(());
+    }
+    let words = circle_words(alloc, reached, circle)?;
+    let last = circle.scripts.last().copied().unwrap_or(0);
+    write_warning(output, alloc, reached, last, circle.at, words)
+}
+
+/// Writes the warnings of circles, each unless it was told before.
+fn warn_of_circles<O: Output>(
+    output: &mut O,
+    alloc: Global,
+    reached: &Reached,
+    circles: &[Circle],
+    told: &mut Told,
+) -> Result<(), Failure>
+    ensures tells { OnOk result (Tells O.written output.old output.new Verdict.Good) }
+    ensures judged { OnOk result (was_judged told.new ≡ was_judged told.old) }
+{
+    for circle in circles {
+        warn_once(output, alloc, reached, circle, told)?;
     }
     Ok(())
 }
 
-/// Writes the warning of nine scripts inside one another, where the eighth names the ninth, unless it was told before.
-fn warn_of_depth(
-    rt: &HostRuntime,
-    reached: &Reached,
-    includes: &Includes,
-    told: &mut Told,
-) -> Result<(), Failure> {
-    let Some(last) = includes.chain.last().copied() else {
-        return Ok(());
-    };
-    let mut chain = Shown::new(rt.alloc());
+/// Nine scripts inside one another, in words, where the eighth names the ninth.
+fn depth_of(alloc: Global, reached: &Reached, includes: &Includes) -> Result<Shown, AllocError> {
+    let mut chain = Shown::new(alloc);
     for link in includes.chain.iter() {
         push_path(&mut chain, reached, link.script)?;
         chain.words(" includes ")?;
     }
     push_path(&mut chain, reached, includes.ninth)?;
+    Ok(chain)
+}
+
+/// What is said of nine scripts inside one another.
+fn depth_words(alloc: Global, chain: &Shown) -> Result<Shown, AllocError> {
+    let mut words = Shown::new(alloc);
+    put!(words;
+        "warning: nine scripts would run inside one another here, and eight may: " text(chain)
+    )?;
+    Ok(words)
+}
+
+/// Writes the warning of nine scripts inside one another, where the eighth names the ninth, unless it was told before.
+fn warn_of_depth<O: Output>(
+    output: &mut O,
+    alloc: Global,
+    reached: &Reached,
+    includes: &Includes,
+    told: &mut Told,
+) -> Result<(), Failure>
+    ensures tells { OnOk result (Tells O.written output.old output.new Verdict.Good) }
+    ensures judged { OnOk result (was_judged told.new ≡ was_judged told.old) }
+{
+    let Some(last) = includes.chain.last().copied() else {
+        return Ok(());
+    };
+    let chain = depth_of(alloc, reached, includes)?;
     if !told.is_new(chain.as_str().as_bytes())? {
         return Ok(());
     }
-    let mut line = Shown::new(rt.alloc());
-    push_place(
-        &mut line,
-        reached.path(last.script),
-        reached.text(last.script),
-        last.at,
-    )?;
-    put!(line;
-        "warning: nine scripts would run inside one another here, and eight may: " text(&chain)
-    )?;
-    write_line(rt, &mut line)
+    let words = depth_words(alloc, &chain)?;
+    write_warning(output, alloc, reached, last.script, last.at, words)
 }
 
 /// Writes a warning for each include that comes back to a script that is still running, and for one that would make nine
 /// scripts run inside one another, by the includes of the scripts that are reached. What was told before, from whichever
 /// script, is not told again.
-pub fn warn_of_includes(
+pub fn warn_of_includes<O: Output>(
     rt: &HostRuntime,
+    output: &mut O,
     reached: &Reached,
     edges: &[Vec<Edge>],
     told: &mut Told,
-) -> Result<(), Failure> {
-    let includes = includes_of(rt.alloc(), edges)?;
-    for circle in includes.circles.iter() {
-        warn_once(rt, reached, circle, told)?;
-    }
-    warn_of_depth(rt, reached, &includes, told)
+) -> Result<(), Failure>
+    ensures tells { OnOk result (Tells O.written output.old output.new Verdict.Good) }
+    ensures judged { OnOk result (was_judged told.new ≡ was_judged told.old) }
+{
+    let alloc = rt.alloc();
+    let includes = includes_of(alloc, edges)?;
+    warn_of_circles(output, alloc, reached, includes.circles.as_slice(), told)?;
+    warn_of_depth(output, alloc, reached, &includes, told)
 }

@@ -1,5 +1,10 @@
 //! Where the scripts that can be included are.
 
+ghost use Rattle.std.specs.Prelude.{◌≡◌, true, IfOk, option_map, string_bytes, if◌then◌else◌};
+ghost use Rattle.rule_folders.specs.Names.{is_officer_name};
+ghost use Rattle.rule_folders.specs.Paths.{without_slash};
+ghost use Rattle.tool_checks.specs.Officers.{AreRulesOf};
+
 use command_lines::tools::Folders;
 use rule_folders::{GLOBAL, MAIN, SCRIPT_ENDING, is_officer};
 use std::alloc::{AllocError, Global};
@@ -21,7 +26,12 @@ pub struct OfficerRules {
 
 impl OfficerRules {
     /// The folders of the scripts that the program can include. There may be none for all officers.
-    pub fn folders(&self) -> Folders<'_> {
+    pub fn folders(&self) -> Folders<'_>
+        ensures personal { option_map (λ f. f.now) result.personal
+            ≡ Some (string_bytes self.now.personal) }
+        ensures global { option_map (λ f. f.now) result.global
+            ≡ Some (string_bytes self.now.global) }
+    {
         Folders {
             personal: Some(self.personal.as_str()),
             global: Some(self.global.as_str()),
@@ -29,7 +39,12 @@ impl OfficerRules {
     }
 
     /// Those of these folders that are there.
-    pub fn folders_there(&self) -> Folders<'_> {
+    pub fn folders_there(&self) -> Folders<'_>
+        ensures personal { option_map (λ f. f.now) result.personal
+            ≡ Some (string_bytes self.now.personal) }
+        ensures global { option_map (λ f. f.now) result.global
+            ≡ (if self.now.has_global then Some (string_bytes self.now.global) else None) }
+    {
         let mut folders = self.folders();
         if !self.has_global {
             folders.global = None;
@@ -87,30 +102,53 @@ fn said_of(
     Ok(text)
 }
 
+/// A folder without the `/` that its name may end with.
+fn without_slash(folder: &str) -> &str
+    ensures { result.now ≡ without_slash folder.now }
+{
+    match folder.strip_suffix('/') {
+        Some(front) => front,
+        None => folder,
+    }
+}
+
+/// The rules of an officer in a folder whose name does not end with a `/`, which may not be there.
+fn rules_in(rt: &HostRuntime, folder: &str, officer: &str) -> Result<OfficerRules, AllocError>
+    requires { is_officer_name officer.now ≡ true }
+    ensures { IfOk result (AreRulesOf folder.now officer.now) }
+{
+    let alloc = rt.alloc();
+    let main = format!(in alloc; "{folder}/{officer}/{MAIN}{SCRIPT_ENDING}")?;
+    let personal = format!(in alloc; "{folder}/{officer}")?;
+    let global = format!(in alloc; "{folder}/{GLOBAL}")?;
+    let has_global = is_there(rt, global.as_str());
+    Ok(OfficerRules {
+        main,
+        personal,
+        global,
+        has_global,
+    })
+}
+
 /// The rules of an officer in a folder of all rules: the program `OFFICER/main.sieve`, the officer's own scripts beside it,
 /// and those of `global`. A failure where the word is no name of an officer that a folder can have, or there is no such
 /// program; it says which officers the folder has.
-pub fn rules_of(rt: &HostRuntime, folder: &str, officer: &str) -> Result<OfficerRules, Failure> {
-    let alloc = rt.alloc();
-    let folder = folder.strip_suffix('/').unwrap_or(folder);
+pub fn rules_of(rt: &HostRuntime, folder: &str, officer: &str) -> Result<OfficerRules, Failure>
+    ensures { IfOk result (AreRulesOf (without_slash folder.now) officer.now) }
+{
+    let folder = without_slash(folder);
     if !is_officer(officer.as_bytes()) {
         let said = said_of(rt, folder, officer, "not a name of an officer");
         return Err(Failure::of(said));
     }
-    let main = format!(in alloc; "{folder}/{officer}/{MAIN}{SCRIPT_ENDING}")?;
+    let rules = rules_in(rt, folder, officer)?;
     if !is_there(rt, folder) {
-        return Err(Failure::at(alloc, folder, &"there is no such folder of rules"));
+        return Err(Failure::at(rt.alloc(), folder, &"there is no such folder of rules"));
     }
-    if !is_there(rt, main.as_str()) {
-        return Err(Failure::of(said_of(rt, folder, main.as_str(), "not there")));
+    if !is_there(rt, rules.main.as_str()) {
+        return Err(Failure::of(said_of(rt, folder, rules.main.as_str(), "not there")));
     }
-    let global = format!(in alloc; "{folder}/{GLOBAL}")?;
-    Ok(OfficerRules {
-        main,
-        personal: format!(in alloc; "{folder}/{officer}")?,
-        has_global: is_there(rt, global.as_str()),
-        global,
-    })
+    Ok(rules)
 }
 
 /// Adds the officer whose folder an entry is, if it is one with a program.

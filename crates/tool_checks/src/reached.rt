@@ -1,7 +1,9 @@
 //! The scripts that a script can reach by its includes, in files.
 
-ghost use Rattle.std.specs.Prelude.{◌≡◌, IfOk, option_map, string_bytes};
-ghost use Rattle.tool_checks.specs.Places.{is_own_name, path_within, place_of, start_of};
+ghost use Rattle.std.specs.Prelude.{◌≡◌, ℕ, List, Option, IfOk, option_map, string_bytes};
+ghost use Rattle.rule_folders.specs.Reached.{Follows};
+ghost use Rattle.rule_folders.specs.Reading.{Read};
+ghost use Rattle.tool_checks.specs.Places.{is_own_name, path_within, place_of, program_at, start_of};
 
 use command_lines::tools::Folders;
 use rule_folders::{Found, Included, Reached, Script, Scripts, path_in};
@@ -120,7 +122,11 @@ impl Scripts for Files<'_> {
 pub fn reached_from<'a>(
     rt: &'a HostRuntime,
     start: &'a Start<'a>,
-) -> Result<(Reached, Vec<Vec<Edge>>), Failure> {
+) -> Result<(Reached, Vec<Vec<Edge>>), Failure>
+    ensures { IfOk result (λ walk. (text : Option (List ℕ)) × (reads : List Read)
+        × Follows (place_of (start_of start.entry.now)) (program_at start.entry.now text) reads
+        walk.0 walk.1.items) }
+{
     let alloc = rt.alloc();
     let program = Script {
         path: String::from_str(alloc, start.path)?,

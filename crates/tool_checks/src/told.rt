@@ -1,5 +1,8 @@
 //! What was told of scripts before.
 
+ghost use Rattle.std.specs.Prelude.{◌≡◌, not, IfOk, OnOk};
+ghost use Rattle.tool_checks.specs.Told.{IsAdded, holds, was_judged, was_told};
+
 use std::alloc::{AllocError, Global};
 use std::collections::BTreeMap;
 
@@ -28,7 +31,11 @@ impl Drop for Told {
 }
 
 /// Adds octets; false where they are there.
-fn add(alloc: Global, set: &mut BTreeMap<Vec<u8>, ()>, octets: &[u8]) -> Result<bool, AllocError> {
+fn add(alloc: Global, set: &mut BTreeMap<Vec<u8>, ()>, octets: &[u8]) -> Result<bool, AllocError>
+    ensures new { IfOk result (λ is_new. is_new ≡ not (holds set.old.entries octets.now)) }
+    ensures added { OnOk result
+        (IsAdded (holds set.old.entries) (holds set.new.entries) octets.now) }
+{
     if set.get(octets).is_some() {
         return Ok(false);
     }
@@ -48,17 +55,28 @@ impl Told {
     }
 
     /// Whether the script at a path was not judged before; it counts as judged from now on.
-    pub(crate) fn is_unjudged(&mut self, path: &str) -> Result<bool, AllocError> {
+    pub(crate) fn is_unjudged(&mut self, path: &str) -> Result<bool, AllocError>
+        ensures new { IfOk result (λ is_new. is_new ≡ not (was_judged self.old path.now)) }
+        ensures added { OnOk result
+            (IsAdded (was_judged self.old) (was_judged self.new) path.now) }
+    {
         add(self.alloc, &mut self.judged, path.as_bytes())
     }
 
     /// Whether a warning was not told before; it counts as told from now on.
-    pub(crate) fn is_new(&mut self, warning: &[u8]) -> Result<bool, AllocError> {
+    pub(crate) fn is_new(&mut self, warning: &[u8]) -> Result<bool, AllocError>
+        ensures new { IfOk result (λ is_new. is_new ≡ not (was_told self.old warning.now)) }
+        ensures added { OnOk result
+            (IsAdded (was_told self.old) (was_told self.new) warning.now) }
+        ensures judged { was_judged self.new ≡ was_judged self.old }
+    {
         add(self.alloc, &mut self.warnings, warning)
     }
 
     /// Whether one more class may be looked for.
-    pub(crate) fn may_guess(&mut self) -> bool {
+    pub(crate) fn may_guess(&mut self) -> bool
+        ensures { was_judged self.new ≡ was_judged self.old }
+    {
         self.guesses = self.guesses.saturating_add(1);
         self.guesses <= MAX_GUESSES
     }

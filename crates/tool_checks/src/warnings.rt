@@ -1,10 +1,18 @@
 //! What goes wrong when a good script runs: classes that are not there, scripts that are not there, and fields that no
 //! message can have.
 
+ghost use Rattle.std.specs.Prelude.{◌≡◌, ◌++◌, not, IfOk, OnOk};
+ghost use Rattle.class_plan.specs.Plans.{is_open_in};
+ghost use Rattle.tool_checks.specs.Told.{was_judged};
+ghost use Rattle.tool_checks.specs.Remarks.{Tells, marks_in};
+ghost use Rattle.tool_checks.specs.Reports.{class_marks};
+
+use crate::output::Output;
 use crate::reached::Start;
 use crate::refusals::{Kind, Refusals};
 use crate::scripts::Surroundings;
 use crate::told::Told;
+use crate::verdicts::worse;
 use class_plan::Plan;
 use rule_folders::tokens_of;
 use sieve_syntax::Token;
@@ -38,7 +46,10 @@ fn judge_class(
     path: &[u8],
     told: &mut Told,
     words: &mut Shown,
-) -> Result<bool, AllocError> {
+) -> Result<bool, AllocError>
+    ensures closed { IfOk result (λ is_closed. is_closed ≡ not (is_open_in plan.now path.now)) }
+    ensures judged { was_judged told.new ≡ was_judged told.old }
+{
     if plan.is_open(path) {
         return Ok(false);
     }
@@ -63,7 +74,12 @@ fn warn_of_class(
     plan: &Plan,
     path: &[u8],
     told: &mut Told,
-) -> Result<(), AllocError> {
+) -> Result<(), AllocError>
+    ensures found { OnOk result (marks_in refusals.new ≡ marks_in refusals.old
+        ++ class_marks script.now.path.now script.now.places.now.text.now at
+        (is_open_in plan.now path.now)) }
+    ensures judged { was_judged told.new ≡ was_judged told.old }
+{
     let mut words = Shown::new(refusals.allocator());
     if judge_class(refusals.allocator(), plan, path, told, &mut words)? {
         let place = Some(script.places.place(at));
@@ -130,7 +146,9 @@ fn warn_of_command(
     around: &Surroundings<'_>,
     told: &mut Told,
     front: &Front,
-) -> Result<(), Failure> {
+) -> Result<(), Failure>
+    ensures { was_judged told.new ≡ was_judged told.old }
+{
     let tokens = front.own(script.tokens);
     warn_of_fields(refusals, script, tokens)?;
     match (name_in(tokens), around.plan) {
@@ -156,21 +174,23 @@ fn warn_of_command(
 }
 
 /// Writes what goes wrong by the commands of a good script. The verdict is `Refused` where a run ends with a fault by one.
-fn warn_of_commands(
+fn warn_of_commands<O: Output>(
     rt: &HostRuntime,
+    output: &mut O,
     script: &Script<'_>,
     around: &Surroundings<'_>,
     told: &mut Told,
     fronts: &[Front],
-) -> Result<Verdict, Failure> {
+) -> Result<Verdict, Failure>
+    ensures tells { IfOk result (λ v. Tells O.written output.old output.new v) }
+    ensures judged { OnOk result (was_judged told.new ≡ was_judged told.old) }
+{
     let mut verdict = Verdict::Good;
     let mut refusals = Refusals::new(rt.alloc());
-    for front in fronts.iter() {
+    for front in fronts {
         warn_of_command(rt, &mut refusals, script, around, told, front)?;
-        if refusals.has_fault() {
-            verdict = Verdict::Refused;
-        }
-        refusals.write_lines(rt)?;
+        let found = refusals.tell_to(output)?;
+        verdict = worse(verdict, found);
     }
     Ok(verdict)
 }
@@ -178,14 +198,18 @@ fn warn_of_commands(
 /// Writes what goes wrong by what a good script names: each class that the plan does not have or that is closed, where a
 /// plan is named, each script that is not there, and each field that no message can have. The verdict is `Refused` for a
 /// class and for a script.
-pub fn warn_of_names(
+pub fn warn_of_names<O: Output>(
     rt: &HostRuntime,
+    output: &mut O,
     start: &Start<'_>,
     path: &str,
     text: &[u8],
     around: &Surroundings<'_>,
     told: &mut Told,
-) -> Result<Verdict, Failure> {
+) -> Result<Verdict, Failure>
+    ensures tells { IfOk result (λ v. Tells O.written output.old output.new v) }
+    ensures judged { OnOk result (was_judged told.new ≡ was_judged told.old) }
+{
     let tokens = tokens_of(rt.alloc(), text)?;
     let fronts = fronts_of(rt.alloc(), &tokens)?;
     let places = PlaceMap::new(rt.alloc(), text)?;
@@ -195,5 +219,5 @@ pub fn warn_of_names(
         tokens: tokens.as_slice(),
         start,
     };
-    warn_of_commands(rt, &script, around, told, fronts.as_slice())
+    warn_of_commands(rt, output, &script, around, told, fronts.as_slice())
 }

@@ -1,0 +1,5 @@
+mod JudgedLemmas
+mod PlanLemmas
+pub mod Steps
+pub mod Tellings
+mod ToldLemmas
