@@ -1,10 +1,16 @@
 //! Scripts and plans, judged as they are named.
 
+ghost use Rattle.std.specs.Prelude.{◌≡◌, ◌∷◌, [], List, IfOk, OnOk, map, ⊤};
+ghost use Rattle.tool_checks.specs.Logs.{Adds};
+ghost use Rattle.tool_checks.specs.Pieces.{Piece};
+ghost use Rattle.tool_checks.specs.Remarks.{Tells};
+ghost use Rattle.tool_scripts.specs.Judged.{AreJudged, Judged};
+
 use command_lines::tools::{Check, Folders, Place};
 use std::alloc::AllocError;
 use tool_checks::{
-    Refusals, Surroundings, Told, check_officer, check_plan, check_script, push_officers,
-    read_plan, rules_of, warn_of_globals,
+    Output, Refusals, Streams, Surroundings, Told, check_officer_to, check_plan, check_script,
+    push_officers, read_plan, rules_of, warn_of_globals_to, worse,
 };
 use tool_console::{Failure, Verdict};
 use tool_inquiry::script_name;
@@ -14,46 +20,55 @@ use tool_texts::Shown;
 const PLAN_ENDING: &str = ".toml";
 
 /// Judges a script or a plan.
-fn check_file(
+fn check_file<O: Output>(
     rt: &HostRuntime,
+    output: &mut O,
     path: &str,
     around: &Surroundings<'_>,
     told: &mut Told,
-) -> Result<Verdict, Failure> {
+) -> Result<Verdict, Failure>
+    ensures { IfOk result (λ v. Tells O.written output.old output.new v) }
+{
     if path.ends_with(PLAN_ENDING) {
-        check_plan(rt, path, around.plan)
+        check_plan(rt, output, path, around.plan)
     } else {
-        check_script(rt, path, script_name(path), around, told)
+        check_script(rt, output, path, script_name(path), around, told)
     }
 }
 
 /// Judges the program of an officer in a folder of all rules.
-fn check_rules(
+fn check_rules<O: Output>(
     rt: &HostRuntime,
+    output: &mut O,
     folder: &str,
     officer: &str,
     around: &Surroundings<'_>,
     told: &mut Told,
-) -> Result<Verdict, Failure> {
+) -> Result<Verdict, Failure>
+    ensures { IfOk result (λ v. Tells O.written output.old output.new v) }
+{
     let rules = rules_of(rt, folder, officer)?;
     let around = Surroundings {
         plan: around.plan,
         folders: rules.folders(),
     };
-    check_officer(rt, rules.main.as_str(), &around, told)
+    check_officer_to(rt, output, rules.main.as_str(), &around, told)
 }
 
 /// Judges what is named on the command line.
-fn check_named(
+fn check_named<O: Output>(
     rt: &HostRuntime,
+    output: &mut O,
     name: &str,
     place: Place<'_>,
     around: &Surroundings<'_>,
     told: &mut Told,
-) -> Result<Verdict, Failure> {
+) -> Result<Verdict, Failure>
+    ensures { IfOk result (λ v. Tells O.written output.old output.new v) }
+{
     match place {
-        Place::Rules(folder) => check_rules(rt, folder, name, around, told),
-        Place::Folders(_) => check_file(rt, name, around, told),
+        Place::Rules(folder) => check_rules(rt, output, folder, name, around, told),
+        Place::Folders(_) => check_file(rt, output, name, around, told),
     }
 }
 
@@ -68,22 +83,93 @@ fn folders_of(place: Place<'_>) -> Folders<'_> {
     }
 }
 
-/// Judges all that is named, one after the other.
-fn check_each(
-    rt: &HostRuntime,
-    asked: &Check<'_>,
-    around: &Surroundings<'_>,
-) -> Result<Verdict, Failure> {
-    let mut told = Told::new(rt.alloc());
+/// Who judges what is named.
+pub trait Judge {
+    /// These were judged, in this order, with these verdicts.
+    ghost judged: { Self → List Judged → Type 0 };
+
+    /// These have been written, in this order, and no others.
+    ghost written: { Self → List Piece → Type 0 };
+
+    /// Judges what has a name.
+    fn judge(&mut self, name: &str) -> Result<Verdict, Failure>
+        ensures judged { IfOk result (λ v. Adds judged self.old self.new
+            (record { name = name.now; verdict = v } ∷ [])) }
+        ensures tells { IfOk result (λ v. Tells written self.old self.new v) };
+}
+
+/// Has all that is named judged, one after the other.
+pub fn judge_each<J: Judge>(judge: &mut J, names: &[&str]) -> Result<Verdict, Failure>
+    ensures { IfOk result (λ v. AreJudged J.judged J.written judge.old judge.new
+        (map (λ n. n.now) names.now) v) }
+{
     let mut verdict = Verdict::Good;
-    for name in asked.files.as_slice() {
-        if let Verdict::Refused = check_named(rt, *name, asked.place, around, &mut told)? {
-            verdict = Verdict::Refused;
+    for name in names {
+        let found = judge.judge(*name)?;
+        verdict = worse(verdict, found);
+    }
+    Ok(verdict)
+}
+
+/// Who judges files, or the programs of officers. What a file has, no contract can say.
+struct Bench<'a, O: Output + Drop> {
+    rt: &'a HostRuntime,
+    output: O,
+    place: Place<'a>,
+    around: &'a Surroundings<'a>,
+    told: Told,
+}
+
+impl<O: Output + Drop> Drop for Bench<'_, O> {
+    fn drop(self) {
+        let Bench {
+            rt: _,
+            output: _,
+            place: _,
+            around: _,
+            told: _,
+        } = self;
+    }
+}
+
+impl<O: Output + Drop> Judge for Bench<'_, O> {
+    ghost judged = { λ bench list. ⊤ };
+
+    ghost written = { λ bench pieces. O.written bench.output pieces };
+
+    fn judge(&mut self, name: &str) -> Result<Verdict, Failure> {
+        check_named(
+            self.rt,
+            &mut self.output,
+            name,
+            self.place,
+            self.around,
+            &mut self.told,
+        )
+    }
+}
+
+/// Warns of the scripts for all officers that nothing reaches that was judged.
+fn warn_of_unreached<O: Output + Drop>(bench: &mut Bench<'_, O>) -> Result<(), Failure>
+    ensures { OnOk result (Tells O.written bench.old.output bench.new.output Verdict.Good) }
+{
+    match bench.place {
+        Place::Rules(folder) => {
+            warn_of_globals_to(bench.rt, &mut bench.output, folder, &mut bench.told)
         }
+        Place::Folders(_) => Ok(()),
     }
-    if let Place::Rules(folder) = asked.place {
-        warn_of_globals(rt, folder, &mut told)?;
-    }
+}
+
+/// Judges all that is named, and warns of the scripts for all officers that none of it reaches.
+fn check_each<O: Output + Drop>(
+    bench: &mut Bench<'_, O>,
+    names: &[&str],
+) -> Result<Verdict, Failure>
+    ensures { IfOk result (λ v. Tells O.written bench.old.output bench.new.output v) }
+{
+    let verdict = judge_each(bench, names)?;
+    warn_of_unreached(bench)?;
     Ok(verdict)
 }
 
@@ -112,5 +198,12 @@ pub fn check_files(rt: &HostRuntime, asked: &Check<'_>) -> Result<Verdict, Failu
         plan: asked.plan.map(|_| &present.plan),
         folders: folders_of(asked.place),
     };
-    check_each(rt, asked, &around)
+    let mut bench = Bench {
+        rt,
+        output: Streams::of(rt),
+        place: asked.place,
+        around: &around,
+        told: Told::new(rt.alloc()),
+    };
+    check_each(&mut bench, asked.files.as_slice())
 }

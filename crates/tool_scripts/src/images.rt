@@ -1,5 +1,13 @@
 //! The image of a script.
 
+ghost use Rattle.std.specs.Prelude.{◌≡◌, IfOk, IfSome, OnOk, option_copied};
+ghost use Rattle.filing_flow.specs.Compiled.{IsCompiled};
+ghost use Rattle.sieve_library.specs.Libraries.{library_of, program_in};
+ghost use Rattle.tool_checks.specs.Logs.{Adds};
+ghost use Rattle.tool_inquiry.specs.Files.{script_in};
+ghost use Rattle.tool_scripts.specs.Answers.{path_of};
+ghost use Rattle.tool_scripts.specs.Images.{IsImage, IsWrittenTo, budget_text, image_pieces};
+
 use crate::scripts::{Source, read_folders, read_script, unless_full};
 use command_lines::tools::Place;
 use filing_gen::{GenFault, compile};
@@ -7,8 +15,9 @@ use filing_image::encode;
 use filing_verify::Verified;
 use sieve_library::Library;
 use sieve_meaning::Location;
-use tool_checks::Refusals;
-use tool_console::{Failure, Verdict, write_file, write_line};
+use std::alloc::{AllocError, Global};
+use tool_checks::{Output, Refusals, Streams};
+use tool_console::{Failure, Verdict};
 use tool_inquiry::{ScriptFile, library_of, script_name};
 use tool_texts::{Shown, put};
 
@@ -25,23 +34,30 @@ fn read_library(
 }
 
 /// The image of a script with what it includes from a library; none where it is too heavy (5), which is added to what is
-/// found. Where there is a folder of personal scripts, the script is one of them, known by the name of its file.
+/// found.
 fn image_with(
     refusals: &mut Refusals,
     script: &ScriptFile,
-    main: &Source<'_>,
+    known_as: Option<&[u8]>,
     library: &Library,
-) -> Result<Option<Verified>, Failure> {
-    let path = script.path.as_str();
-    let known_as = main.folders().personal.map(|_| script_name(path));
+) -> Result<Option<Verified>, Failure>
+    ensures { IfOk result (λ p. IfSome p (IsCompiled (library_of library.now)
+        (option_copied known_as.entry) (program_in (script_in script.now)))) }
+{
     match compile(refusals.allocator(), &script.script, known_as, library) {
         Ok(program) => Ok(Some(program)),
         Err(GenFault::NoMemory) => Err(Failure::NoMemory),
         Err(GenFault::TooLarge) => {
-            refusals.add_number(path, 5)?;
+            refusals.add_number(script.path.as_str(), 5)?;
             Ok(None)
         }
     }
+}
+
+/// The name that a script is known by, by the path of its file: where there is a folder of personal scripts, it is one of
+/// these.
+fn known_as<'p>(main: &Source<'_>, path: &'p str) -> Option<&'p [u8]> {
+    main.folders().personal.map(|_| script_name(path))
 }
 
 /// The image of a script with what it includes from folders; none where something is refused, which is added to what is
@@ -50,23 +66,64 @@ fn image_of(
     rt: &HostRuntime,
     refusals: &mut Refusals,
     main: &Source<'_>,
-) -> Result<Option<Verified>, Failure> {
+) -> Result<Option<Verified>, Failure>
+    ensures { IfOk result (λ p. IfSome p (IsImage (path_of main.now))) }
+{
     let Some(script) = read_script(rt, refusals, main.path(), Location::Personal)? else {
         return Ok(None);
     };
     match read_library(rt, refusals, main)? {
-        Some(library) => image_with(refusals, &script, main, &library),
+        Some(library) => {
+            let known_as = known_as(main, script.path.as_str());
+            image_with(refusals, &script, known_as, &library)
+        }
         None => Ok(None),
     }
 }
 
-/// Writes an image to a file, and reports its budget in steps.
-fn write_image(rt: &HostRuntime, path: &str, program: &Verified) -> Result<(), Failure> {
-    let octets = encode(rt.alloc(), program.image())?;
-    write_file(rt, path, &octets)?;
-    let mut line = Shown::new(rt.alloc());
+/// The line that reports the budget of an image.
+fn budget_of(alloc: Global, program: &Verified) -> Result<Shown, AllocError>
+    ensures { IfOk result (λ line. line ≡ budget_text program.now.budget) }
+{
+    let mut line = Shown::new(alloc);
     put!(line; "budget " value(&program.budget()))?;
-    write_line(rt, &mut line)
+    Ok(line)
+}
+
+/// Writes an image to a file, and reports its budget in steps.
+fn write_image<O: Output>(
+    output: &mut O,
+    alloc: Global,
+    path: &str,
+    program: &Verified,
+) -> Result<(), Failure>
+    ensures { OnOk result (Adds O.written output.old output.new
+        (image_pieces path.now program.now)) }
+{
+    let octets = encode(alloc, program.image())?;
+    output.save(path, &octets)?;
+    let line = budget_of(alloc, program)?;
+    output.print(line)?;
+    Ok(())
+}
+
+/// Writes the image of a script to a file, as `compile_script` does.
+pub fn compile_to<O: Output>(
+    rt: &HostRuntime,
+    output: &mut O,
+    main: &Source<'_>,
+    image: &str,
+) -> Result<Verdict, Failure>
+    ensures { IfOk result (IsWrittenTo O.written output.old output.new
+        (path_of main.now) image.now) }
+{
+    let mut refusals = Refusals::new(rt.alloc());
+    let Some(program) = image_of(rt, &mut refusals, main)? else {
+        refusals.write_to(output)?;
+        return Ok(Verdict::Refused);
+    };
+    write_image(output, rt.alloc(), image, &program)?;
+    Ok(Verdict::Good)
 }
 
 /// Writes the image of a script to a file, and reports its budget in steps: of the script at a path, or of the program of
@@ -79,11 +136,5 @@ pub fn compile_script(
     image: &str,
 ) -> Result<Verdict, Failure> {
     let main = Source::of(rt, script, place)?;
-    let mut refusals = Refusals::new(rt.alloc());
-    let Some(program) = image_of(rt, &mut refusals, &main)? else {
-        refusals.write_lines(rt)?;
-        return Ok(Verdict::Refused);
-    };
-    write_image(rt, image, &program)?;
-    Ok(Verdict::Good)
+    compile_to(rt, &mut Streams::of(rt), &main, image)
 }

@@ -14,8 +14,10 @@
 //! - `recipients`: the officers of a folder of rules as recipients of mail, for `recipients`.
 //!
 //! What becomes of a message is found by `tool_inquiry`, and an image is made by `filing_gen`; their contracts say what
-//! these are. What is read and written here, no contract speaks of: tests of the program show it. It is written to
-//! standard output a line at a time, since a run may have many steps.
+//! these are. Contracts here say that all that is named is judged, which lines `recipients` writes, that what is written as an
+//! image is what the compiler made, and that a report has the outcome that was asked for. What a file has, and the steps of
+//! an image, no contract speaks of: tests of the program show these. It is written to standard output a line at a time, since
+//! a run may have many steps.
 #![tactic(auto)]
 
 mod checks;
@@ -30,8 +32,9 @@ mod runs;
 mod scripts;
 mod steps;
 
-pub use checks::check_files;
+pub use checks::{Judge, check_files, judge_each};
 pub use dumps::dump_image;
-pub use images::compile_script;
-pub use recipients::write_recipients;
+pub use images::{compile_script, compile_to};
+pub use recipients::{list_recipients, write_recipients};
 pub use runs::tell_why;
+pub use scripts::Source;

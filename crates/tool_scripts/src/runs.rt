@@ -1,5 +1,11 @@
 //! Why a message is filed in its classes.
 
+ghost use Rattle.std.specs.Prelude.{◌≡◌, ◌∷◌, [], IfOk, IfSome, OnOk, codes};
+ghost use Rattle.tool_checks.specs.Logs.{Adds};
+ghost use Rattle.tool_checks.specs.Pieces as piece;
+ghost use Rattle.tool_inquiry.specs.Outcomes.{outcome_octets};
+ghost use Rattle.tool_scripts.specs.Answers.{IsInquiryOf, IsMainAt, IsReported, answer_pieces, path_of};
+
 use crate::classes::show_classes;
 use crate::dumps::read_image;
 use crate::questions::{Question, read_question};
@@ -12,12 +18,13 @@ use filing_verify::Verified;
 use mail_case::Case;
 use sieve_meaning::{Location, Outcome, RunFault};
 use std::alloc::{AllocError, Global};
-use tool_checks::Refusals;
-use tool_console::{Failure, Verdict, tell_words, write_data, write_text};
+use tool_checks::{Output, Refusals, Streams};
+use tool_console::{Failure, Verdict, tell_words, write_data};
 use tool_inquiry::{
     Answer, Form, Inquiry, ScriptFile, Scripts, Written, answer_to, compiled, open_case,
     outcome_text,
 };
+use tool_texts::Shown;
 
 /// Scripts without the main one, which may be in a folder too.
 fn without_main(
@@ -39,7 +46,9 @@ fn read_scripts(
     rt: &HostRuntime,
     refusals: &mut Refusals,
     source: &Source<'_>,
-) -> Result<Option<Scripts>, Failure> {
+) -> Result<Option<Scripts>, Failure>
+    ensures { IfOk result (λ s. IfSome s (IsMainAt (path_of source.now))) }
+{
     let Some(main) = read_script(rt, refusals, source.path(), Location::Personal)? else {
         return Ok(None);
     };
@@ -66,27 +75,54 @@ fn tell_lack(rt: &HostRuntime, asked: &Why<'_>, fault: Option<RunFault>) {
 }
 
 /// Writes an outcome in the lines of a session.
-fn write_outcome(rt: &HostRuntime, outcome: &Outcome) -> Result<(), Failure> {
-    let text = outcome_text(rt.alloc(), outcome)?;
-    write_data(rt, &text)
+fn write_outcome<O: Output>(output: &mut O, alloc: Global, outcome: &Outcome) -> Result<(), Failure>
+    ensures { OnOk result (Adds O.written output.old output.new
+        (piece.octets (outcome_octets outcome.now) ∷ [])) }
+{
+    let text = outcome_text(alloc, outcome)?;
+    output.write(&text)?;
+    Ok(())
 }
 
-/// Writes an answer: in lines, with the outcome as in a session below, or as one line of JSON.
-fn write_answer(rt: &HostRuntime, answer: &Answer) -> Result<(), Failure> {
+/// Writes a report in lines, and below it the outcome as in a session.
+fn write_lines<O: Output>(
+    output: &mut O,
+    alloc: Global,
+    text: &Shown,
+    outcome: &Outcome,
+) -> Result<(), Failure>
+    ensures { OnOk result (Adds O.written output.old output.new
+        (piece.octets text.now ∷ piece.octets (outcome_octets outcome.now) ∷ [])) }
+{
+    output.write(text.as_str().as_bytes())?;
+    write_outcome(output, alloc, outcome)?;
+    Ok(())
+}
+
+/// Writes a report as one line of JSON.
+fn write_json<O: Output>(output: &mut O, text: &str) -> Result<(), Failure>
+    ensures { OnOk result (Adds O.written output.old output.new
+        (piece.octets text.now ∷ piece.octets (codes "\n") ∷ [])) }
+{
+    output.write(text.as_bytes())?;
+    output.write(b"\n")?;
+    Ok(())
+}
+
+/// Writes an answer: in lines, with the outcome below, or as one line of JSON.
+fn write_answer<O: Output>(output: &mut O, alloc: Global, answer: &Answer) -> Result<(), Failure>
+    ensures { OnOk result (Adds O.written output.old output.new (answer_pieces answer.now)) }
+{
     match &answer.text {
-        Written::Json(text) => {
-            write_data(rt, text.as_bytes())?;
-            write_data(rt, b"\n")
-        }
-        Written::Lines(text) => {
-            write_text(rt, text)?;
-            write_outcome(rt, &answer.outcome)
-        }
+        Written::Json(text) => write_json(output, text.as_str()),
+        Written::Lines(text) => write_lines(output, alloc, text, &answer.outcome),
     }
 }
 
 /// What is asked of scripts.
-fn inquiry_of<'q>(scripts: &'q Scripts, question: &'q Question<'q>) -> Inquiry<'q> {
+fn inquiry_of<'q>(scripts: &'q Scripts, question: &'q Question<'q>) -> Inquiry<'q>
+    ensures { IsInquiryOf scripts.now question.now result }
+{
     let plan_text = match (question.asked.plan, &question.plan.text) {
         (Some(path), Some(text)) => Some((path, text.as_slice())),
         _ => None,
@@ -101,7 +137,24 @@ fn inquiry_of<'q>(scripts: &'q Scripts, question: &'q Question<'q>) -> Inquiry<'
     }
 }
 
-/// Writes a report on the run of a script.
+/// Writes a report on the run of a script; none where something is refused, which is added to what is found.
+fn report_on<O: Output>(
+    output: &mut O,
+    alloc: Global,
+    refusals: &mut Refusals,
+    inquiry: &Inquiry<'_>,
+    form: Form,
+) -> Result<Option<Answer>, Failure>
+    ensures { IfOk result (IsReported O.written output.old output.new inquiry.now) }
+{
+    let Some(answer) = unless_full(refusals, answer_to(alloc, inquiry, form))? else {
+        return Ok(None);
+    };
+    write_answer(output, alloc, &answer)?;
+    Ok(Some(answer))
+}
+
+/// Writes a report on the run of a script, and where to look for what it has missed.
 fn report_run(
     rt: &HostRuntime,
     refusals: &mut Refusals,
@@ -110,10 +163,10 @@ fn report_run(
     form: Form,
 ) -> Result<Verdict, Failure> {
     let inquiry = inquiry_of(scripts, question);
-    let Some(answer) = unless_full(refusals, answer_to(rt.alloc(), &inquiry, form))? else {
+    let mut output = Streams::of(rt);
+    let Some(answer) = report_on(&mut output, rt.alloc(), refusals, &inquiry, form)? else {
         return Ok(Verdict::Refused);
     };
-    write_answer(rt, &answer)?;
     tell_lack(rt, question.asked, answer.outcome.fault);
     Ok(Verdict::Good)
 }
@@ -130,7 +183,7 @@ fn show_run<C: Case>(
     show_fields(rt, question.message.as_slice(), case)?;
     show_steps(rt, image, case, run)?;
     show_classes(rt, image, plan, question.moment, run)?;
-    write_outcome(rt, &run.outcome)
+    write_outcome(&mut Streams::of(rt), rt.alloc(), &run.outcome)
 }
 
 /// Runs an image over the message, and shows the run.

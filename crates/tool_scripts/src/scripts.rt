@@ -1,5 +1,9 @@
 //! Scripts of files, and of folders of scripts that can be included.
 
+ghost use Rattle.std.specs.Prelude.{◌≡◌, List, ℕ, IfOk, IfSome};
+ghost use Rattle.tool_inquiry.specs.Files.{IsFileOf};
+ghost use Rattle.tool_scripts.specs.Answers.{path_of};
+
 use command_lines::tools::{Folders, Place};
 use rule_folders::{SCRIPT_ENDING, Script};
 use sieve_meaning::Location;
@@ -30,7 +34,9 @@ impl<'a> Source<'a> {
     }
 
     /// Its path.
-    pub fn path(&self) -> &str {
+    pub fn path(&self) -> &str
+        ensures { result.now ≡ path_of self.now }
+    {
         match self {
             Source::Path(path, _) => *path,
             Source::Officer(rules) => rules.main.as_str(),
@@ -61,7 +67,9 @@ fn script_with(
     path: &str,
     location: Location,
     text: Vec<u8>,
-) -> Result<Option<ScriptFile>, AllocError> {
+) -> Result<Option<ScriptFile>, AllocError>
+    ensures { IfOk result (λ f. IfSome f (IsFileOf path.now location text.items)) }
+{
     match judge_script(refusals, path, &text)? {
         Verdict::Good => script_of(refusals.allocator(), path, location, text),
         Verdict::Refused => Ok(None),
@@ -74,7 +82,10 @@ pub fn read_script(
     refusals: &mut Refusals,
     path: &str,
     location: Location,
-) -> Result<Option<ScriptFile>, Failure> {
+) -> Result<Option<ScriptFile>, Failure>
+    ensures { IfOk result (λ f. IfSome f (λ x. (text : List ℕ)
+        × IsFileOf path.now location text x)) }
+{
     let text = read_script_text(rt, path)?;
     Ok(script_with(refusals, path, location, text)?)
 }
@@ -208,7 +219,9 @@ pub fn read_folders(
 pub fn unless_full<T: Drop>(
     refusals: &mut Refusals,
     given: Result<T, InquiryFault>,
-) -> Result<Option<T>, Failure> {
+) -> Result<Option<T>, Failure>
+    ensures { IfOk result (λ r. IfSome r (λ x. given ≡ Ok x)) }
+{
     match given {
         Ok(given) => Ok(Some(given)),
         Err(InquiryFault::NoMemory) => Err(Failure::NoMemory),

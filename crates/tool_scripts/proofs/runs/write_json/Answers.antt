@@ -1,0 +1,12 @@
+use Rattle.std.proofs.Common.{◌∷◌, [], codes, subst}
+use Rattle.tool_checks.specs.Logs.{Adds}
+use Rattle.tool_checks.specs.Pieces.{octets}
+use Rattle.tool_checks.proofs.Steps.{more_added}
+use Rattle.tool_scripts.proofs.runs.write_json.Goals as goal
+
+pub returns : goal.returns
+returns g c =
+    let written = g.O.Output.written in
+    let first = subst (λ t. Adds written c.args.output.now c.write.new.self (octets t ∷ [])) c.as_bytes.ensures.value c.in_ok-write.ensures in
+    more_added written c.args.output.now c.write.new.self c.write-2.new.self (octets c.args.text.now ∷ [])
+    (octets (codes "\n") ∷ []) first c.in_ok-write-2.ensures

@@ -1,0 +1,4 @@
+pub mod Answers
+pub mod Images
+pub mod Judged
+pub mod Recipients
