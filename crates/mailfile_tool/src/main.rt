@@ -2,6 +2,10 @@
 //! check scripts, show images as text, and say why a message is filed where it is.
 #![tactic(auto)]
 
+ghost use Rattle.std.specs.Prelude.{◌≡◌};
+ghost use Rattle.std.specs.Process.{exit_status};
+ghost use Rattle.mailfile_tool.specs.Statuses.{end_status, failure_status, no_command_status, status_of};
+
 use command_lines::tools::{Command, Explain, read_command};
 use command_lines::{NoCommand, fill_streams, words_of_process};
 use std::process::ExitCode;
@@ -42,7 +46,9 @@ fn carry_out(rt: &HostRuntime, command: Command<'_>) -> Result<Verdict, Failure>
 }
 
 /// Reports why something was not done; nothing is reported where the reader of the output has gone.
-fn tell_failure(rt: &HostRuntime, failure: &Failure) -> ExitCode {
+fn tell_failure(rt: &HostRuntime, failure: &Failure) -> ExitCode
+    ensures { exit_status result ≡ failure_status failure.now }
+{
     match failure {
         Failure::Closed => return ExitCode::SUCCESS,
         Failure::NoMemory => tell_words(rt, "out of memory"),
@@ -61,7 +67,9 @@ fn tell_reason(rt: &HostRuntime, reason: &String) {
 }
 
 /// Ends where the command line has no command. What `clap` reports is printed already, which for `--help` is no fault.
-fn tell_no_command(rt: &HostRuntime, why: &NoCommand) -> ExitCode {
+fn tell_no_command(rt: &HostRuntime, why: &NoCommand) -> ExitCode
+    ensures { exit_status result ≡ no_command_status why.now }
+{
     match why {
         NoCommand::Answered => return ExitCode::SUCCESS,
         NoCommand::Told => {}
@@ -73,16 +81,31 @@ fn tell_no_command(rt: &HostRuntime, why: &NoCommand) -> ExitCode {
     ExitCode::from(STATUS_FAILURE)
 }
 
+/// The status of a verdict.
+fn status_of(verdict: Verdict) -> ExitCode
+    ensures { exit_status result ≡ status_of verdict }
+{
+    match verdict {
+        Verdict::Good => ExitCode::SUCCESS,
+        Verdict::Refused => ExitCode::from(STATUS_REFUSED),
+    }
+}
+
+/// The status of what was done. Why it was not done is reported.
+fn end_with(rt: &HostRuntime, done: Result<Verdict, Failure>) -> ExitCode
+    ensures { exit_status result ≡ end_status done }
+{
+    match done {
+        Ok(verdict) => status_of(verdict),
+        Err(failure) => tell_failure(rt, &failure),
+    }
+}
+
 /// Reads the words of the command line, and carries out their command.
 fn serve(rt: &HostRuntime, words: &[String]) -> ExitCode {
-    let command = match read_command(rt, words) {
-        Ok(command) => command,
-        Err(why) => return tell_no_command(rt, &why),
-    };
-    match carry_out(rt, command) {
-        Ok(Verdict::Good) => ExitCode::SUCCESS,
-        Ok(Verdict::Refused) => ExitCode::from(STATUS_REFUSED),
-        Err(failure) => tell_failure(rt, &failure),
+    match read_command(rt, words) {
+        Ok(command) => end_with(rt, carry_out(rt, command)),
+        Err(why) => tell_no_command(rt, &why),
     }
 }
 
