@@ -15,6 +15,7 @@ pub mod IntakeLaws
 pub mod FoundLaws
 pub mod RefileLaws
 pub mod ChangeLaws
+pub mod ConsentLaws
 pub mod ReplacementLaws
 pub mod LookingLaws
 pub mod DueListLaws

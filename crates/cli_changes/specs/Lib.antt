@@ -29,6 +29,7 @@ pub mod Rooms
 pub mod Runs
 pub mod Series
 pub mod Replacements
+pub mod Consents
 pub mod Holdings
 pub mod Moves
 pub mod RefilingLines

@@ -13,6 +13,7 @@
 //!   `import_rounds`: its rounds; `import_log`: what is said of its messages; `no_mail`: what looks like no message;
 //! - `holds` and `whole_holds`: records that must not be destroyed, and the end of a hold on all of them; `keeping`: whether a
 //!   new plan keeps less;
+//! - `consent`: whether a person agrees to a change that was shown;
 //! - `refile`: another class for records; `refilings`: which of them get it; `due_today`: what is due at once by a change;
 //! - `series`: how single records are changed, one after another, for `holds`, `whole_holds` and `refile`;
 //! - `titles`: titles of classes, which a file gives;
@@ -31,6 +32,7 @@ mod altered;
 mod approved;
 mod certificates;
 mod class_changes;
+mod consent;
 mod deliver;
 mod destroying;
 mod disposal_tally;
@@ -69,6 +71,7 @@ mod whole_holds;
 
 pub use approved::with_approved;
 pub use certificates::{Certificates, Printer, StandardOutput};
+pub use consent::{Person, Terminal, judge_consent};
 pub use deliver::{Delivered, deliver_to, read_message, report_delivery, undecoded_in};
 pub use disposal_tally::DisposalTally;
 pub use dispose::{day_of_disposal, dispose_by, judge_disposal};
@@ -92,4 +95,6 @@ pub use series::judge_refused;
 pub use space::{Place, Space};
 pub use time_of_day::logged;
 pub use titles::{read_titles, set_titles};
-pub use whole_holds::{judge_release, list_held, release_all, release_listed};
+pub use whole_holds::{
+    judge_release, judge_release_by, list_held, release_all, release_all_by, release_listed,
+};

@@ -14,12 +14,14 @@ ghost use Rattle.cli_changes.specs.Holdings.{
   more_listed,
   none_listed,
 };
-ghost use Rattle.cli_changes.specs.Series.{ChangesAll, ChangesFirst, WasClean};
+ghost use Rattle.cli_changes.specs.Consents.{AsksFor, FailsAgreed, IsDenied, to_release};
+ghost use Rattle.cli_changes.specs.Series.{ChangesAll, ChangesFirst, KeepsAll, WasClean};
 
+use crate::consent::{Person, Terminal, judge_consent};
 use crate::holds::{HoldChange, held_choice, not_held};
 use crate::series::{change_all, judge_listed};
 use cli_choice::Change;
-use cli_console::{Failure, Reader, Status, agrees, read_chosen, write_text};
+use cli_console::{Failure, Reader, read_chosen, write_text};
 use cli_history::StoreLedger;
 use cli_texts::{Headers, ListedHeaders, Row, listed_line};
 use record_choice::Repository;
@@ -123,8 +125,34 @@ pub fn list_held<R: Repository<Fault = StoreFault>>(
     held_numbers(rt, archive, volume, name, true)
 }
 
-/// Finds that someone agrees to the end of a hold on the records that were listed. `BadData` where none was, or `Usage` where the name of
-/// the hold reads as numbers of records; `Usage` where nobody agrees.
+/// Finds that a person agrees to the end of a hold on the records that were listed, who is asked unless `--yes` is typed. `BadData` where
+/// none was listed, or `Usage` where the name of the hold reads as numbers of records; `Usage` where the person does not agree.
+pub fn judge_release_by<P: Person>(
+    rt: &HostRuntime,
+    person: &mut P,
+    name: &str,
+    is_any: bool,
+    is_agreed: bool,
+) -> Result<(), Failure>
+    ensures any { OnOk result (is_any ≡ true) }
+    ensures agreed { OnOk result
+        (AsksFor P.made person.old person.new to_release is_agreed true) }
+    ensures denied { OnErr result
+        (IsDenied P.made person.old person.new to_release is_agreed) }
+{
+    if !is_any {
+        return Err(not_held(rt.alloc(), name));
+    }
+    judge_consent(
+        rt.alloc(),
+        person,
+        is_agreed,
+        "release all of these records?",
+        "no record is released; --yes releases them",
+    )
+}
+
+/// The same of the person at the terminal.
 pub fn judge_release(
     rt: &HostRuntime,
     name: &str,
@@ -133,17 +161,7 @@ pub fn judge_release(
 ) -> Result<(), Failure>
     ensures { OnOk result (is_any ≡ true) }
 {
-    if !is_any {
-        return Err(not_held(rt.alloc(), name));
-    }
-    if is_agreed || agrees(rt, "release all of these records?") {
-        return Ok(());
-    }
-    Err(Failure::told(
-        rt.alloc(),
-        Status::Usage,
-        "no record is released; --yes releases them",
-    ))
+    judge_release_by(rt, &mut Terminal { rt }, name, is_any, is_agreed)
 }
 
 /// Ends the hold of a name on each live record of a volume that has it; these have to be the ones that were listed. `TryAgain` where they are
@@ -178,12 +196,43 @@ pub fn release_listed<S: Alter>(
     change_all(&hold, archive, numbers)
 }
 
-/// Ends the hold of a name on each live record that has it, once these were listed, and someone agrees. `BadData` where no record
-/// has it, and where the archive refuses one, which is told; `Usage` where nobody agrees.
+/// Ends the hold of a name on each live record that has it, once these were listed, and a person agrees, who is asked unless `--yes` is
+/// typed. `BadData` where no record has it, and where the archive refuses one, which is told; `Usage` where the person does not agree.
 ///
-/// Where it succeeds, the hold is ended on each live record that has it, of which there is one at least, and nothing else of the
-/// archive has changed. Where it fails, it is so for the first of them, in the order of their numbers, up to one of them, none or
-/// all, and nothing else has changed.
+/// Where it succeeds, the person agreed, the hold is ended on each live record that has it, of which there is one at least, and nothing
+/// else of the archive has changed. Where it fails, it is so for the first of them, in the order of their numbers, up to one of them,
+/// none or all, and nothing else has changed; and nothing at all, unless the person agreed.
+pub fn release_all_by<P: Person, S: Alter>(
+    rt: &HostRuntime,
+    person: &mut P,
+    archive: &mut StoreLedger<'_, S>,
+    name: &str,
+    is_agreed: bool,
+) -> Result<(), Failure>
+    ensures falls { WasClean (keeper_of S.Store) archive.old archive.new }
+    ensures done { OnOk result (ChangesAll (keeper_of S.Store) archive.old archive.new
+        (changed_on Change.End name.now) (λ a. numbers_of (held_by name.now a))
+        (λ a. is_any_of (held_by name.now a) ≡ true)) }
+    ensures failed { OnErr result (ChangesFirst (keeper_of S.Store) archive.old archive.new
+        (changed_on Change.End name.now) (λ a. numbers_of (held_by name.now a))) }
+    ensures agreed { OnOk result
+        (AsksFor P.made person.old person.new to_release is_agreed true) }
+    ensures denied { OnErr result (FailsAgreed P.made person.old person.new to_release is_agreed
+        (KeepsAll (keeper_of S.Store) archive.old archive.new)) }
+{
+    let held = list_held(rt, archive, None, name)?;
+    let numbers = held.as_slice();
+    judge_release_by(rt, person, name, !numbers.is_empty(), is_agreed)?;
+    let hold = HoldChange {
+        rt,
+        volume: None,
+        change: Change::End,
+        name,
+    };
+    change_all(&hold, archive, numbers)
+}
+
+/// The same by the person at the terminal.
 pub fn release_all<S: Alter>(
     rt: &HostRuntime,
     archive: &mut StoreLedger<'_, S>,
@@ -197,14 +246,5 @@ pub fn release_all<S: Alter>(
     ensures failed { OnErr result (ChangesFirst (keeper_of S.Store) archive.old archive.new
         (changed_on Change.End name.now) (λ a. numbers_of (held_by name.now a))) }
 {
-    let held = list_held(rt, archive, None, name)?;
-    let numbers = held.as_slice();
-    judge_release(rt, name, !numbers.is_empty(), is_agreed)?;
-    let hold = HoldChange {
-        rt,
-        volume: None,
-        change: Change::End,
-        name,
-    };
-    change_all(&hold, archive, numbers)
+    release_all_by(rt, &mut Terminal { rt }, archive, name, is_agreed)
 }
