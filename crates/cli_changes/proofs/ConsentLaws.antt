@@ -1,7 +1,7 @@
 -- Calls of a person that are made one after the other.
-use Rattle.std.proofs.Common.{ℕ, Bool, true, List, [], ◌++◌, Result, Ok, Err, OnErr, OnOk, inl, sym, subst, is_ok}
+use Rattle.std.proofs.Common.{◌≡◌, ℕ, Bool, true, List, [], ◌∷◌, ◌++◌, Result, Ok, Err, OnErr, OnOk, inl, sym, subst, is_ok}
 use Rattle.std.proofs.lemmas.List.{append-nil, append_assoc}
-use Rattle.cli_changes.specs.Consents.{AsksFor, Call, IsDenied, Makes}
+use Rattle.cli_changes.specs.Consents.{AsksFor, Call, IsDenied, Makes, show}
 
 pub none_made : {P : Type 0} (made : P → List Call → Type 0) (a : P) → Makes made a a []
 none_made {P} made a done h = subst (λ (l : List Call). made a l) (sym (append-nil done)) h
@@ -28,3 +28,9 @@ module _ {P : Type 0} (made : P → List Call → Type 0) (old new : P) (questio
 pub on_ok : {T E : Type 0} (r : Result T E) (Q : Type 0) → Q → OnOk r Q
 on_ok (Ok x) Q q = q
 on_ok (Err e) Q q = tt
+
+-- a text was shown where that succeeds
+pub shown_on_ok : {P T E : Type 0} (made : P → List Call → Type 0) (old new : P) (text target : List ℕ) (r : Result T E) → text ≡ target
+    → Makes made old new (show text (is_ok r) ∷ []) → OnOk r (Makes made old new (show target true ∷ []))
+shown_on_ok {P} {T} {E} made old new text target (Ok x) same told = subst (λ (t : List ℕ). Makes made old new (show t true ∷ [])) same told
+shown_on_ok {P} {T} {E} made old new text target (Err e) same told = tt

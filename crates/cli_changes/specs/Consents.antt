@@ -1,5 +1,7 @@
 -- Whether a person agrees to a change.
-use Rattle.std.specs.Prelude.{◌⊎◌, ℕ, Bool, true, false, List, [], ◌∷◌, ◌++◌, codes}
+use Rattle.std.specs.Prelude.{◌≡◌, ◌⊎◌, ℕ, Bool, true, false, List, [], ◌∷◌, ◌++◌, codes}
+use Rattle.cli_changes.specs.RefilingLines.{moves_lines}
+use Rattle.cli_changes.specs.declared.refile.MoveTally.{MoveTally}
 
 -- a call of a person, with what came of it
 pub data Call : Type 0 where
@@ -49,3 +51,16 @@ to_replace = codes "replace the plan?"
 
 abbrev pub to_refile : List ℕ
 to_refile = codes "refile these records?"
+
+-- ---- what is shown before
+
+-- A NEW PLAN IS AGREED TO, once these lines on its classes were shown, and then what it changes for the records
+abbrev pub AgreesToPlan : {P : Type 0} (made : P → List Call → Type 0) (old new : P) (classes : List ℕ) (is_typed : Bool) → Type 0
+AgreesToPlan made old new classes is_typed =
+    (records : List ℕ) × AsksAfter made old new (show classes true ∷ show records true ∷ []) to_replace is_typed true
+
+-- A REFILING IS AGREED TO: no record gets the class, and nobody is asked; or what it changes is shown before, in all
+abbrev pub AgreesToMoves : {P : Type 0} (made : P → List Call → Type 0) (old new : P) → MoveTally → (is_typed : Bool) → Type 0
+AgreesToMoves made old new tally is_typed =
+    ((tally.count ≡ 0) × Makes made old new [])
+    ⊎ AsksAfter made old new (show (moves_lines tally) true ∷ []) to_refile is_typed true

@@ -82,7 +82,7 @@ pub use intake::{Intake, take_new};
 pub use keeping::keeps_less;
 pub use moments::{MomentFault, Timing, judge_moment, moment_in};
 pub use no_mail::refuse_no_mail;
-pub use plan::{replace_plan, write_plan};
+pub use plan::{replace_plan, replace_plan_by, write_plan};
 pub use plan_file::read_plan;
 pub use refile::{
     MoveTally, Moves, RefilingTo, judge_moves, judge_refiling, moves_shown, refile_listed,

@@ -1,19 +1,22 @@
 //! `plan`: the plan of an archive, and another one in its place.
 
-ghost use Rattle.std.specs.Prelude.{OnErr, OnOk};
-ghost use Rattle.record_ledger.specs.Ledgers.{keeper_of};
+ghost use Rattle.std.specs.Prelude.{◌∷◌, [], ℕ, List, true, OnErr, OnOk};
+ghost use Rattle.record_ledger.specs.Ledgers.{keeper_of, store_of};
+ghost use Rattle.cli_changes.specs.ClassChanges.{class_lines as class_lines_of};
+ghost use Rattle.cli_changes.specs.Consents.{AgreesToPlan, Makes, show};
 ghost use Rattle.cli_changes.specs.Replacements.{Replaces};
 ghost use Rattle.cli_changes.specs.Series.{KeepsAll, WasClean};
 
 use crate::class_changes::class_lines;
+use crate::consent::{Person, Terminal, judge_consent};
 use crate::plan_changes::{changes_by, changes_lines};
 use class_plan::Plan;
-use cli_console::{Failure, Status, agrees, today, write_data, write_text};
+use cli_console::{Failure, Status, today, write_data};
 use cli_history::StoreLedger;
 use cli_texts::{plan_of_text, plan_text};
 use record_archive::Records;
 use sqlite::Alter;
-use std::alloc::AllocError;
+use std::alloc::{AllocError, Global};
 use tool_plans::{dropped_paths, renaming_of};
 use tool_texts::{Shown, put};
 
@@ -67,37 +70,91 @@ fn judge_classes(rt: &HostRuntime, present: &Plan, new: &Plan, path: &str) -> Re
     Err(Failure::Told(Status::BadData, text))
 }
 
-/// Finds that a plan may replace that of an archive: it has each of its classes, and once it was printed what that changes in the
-/// classes and for the records, someone agrees. `BadData` where a class is left out, before anything is printed; `Usage` where
-/// nobody agrees.
-fn judge_replacement<S: Alter>(
+/// Shows what a plan changes in the classes.
+fn show_classes<P: Person>(
+    alloc: Global,
+    person: &mut P,
+    present: &Plan,
+    new: &Plan,
+) -> Result<(), Failure>
+    ensures { OnOk result (Makes P.made person.old person.new
+        (show (class_lines_of present.now new.now) true ∷ [])) }
+{
+    let classes = class_lines(alloc, present, new)?;
+    person.show(&classes)
+}
+
+/// Shows what a plan changes for the records.
+fn show_changes<P: Person, S: Alter>(
     rt: &HostRuntime,
+    person: &mut P,
+    archive: &mut StoreLedger<'_, S>,
+    plan: &Plan,
+) -> Result<(), Failure>
+    ensures kept { KeepsAll (keeper_of S.Store) archive.old archive.new }
+    ensures shown { OnOk result ((text : List ℕ)
+        × Makes P.made person.old person.new (show text true ∷ [])) }
+{
+    let changes = changes_by(rt, archive, plan, today(rt)?)?;
+    let text = changes_lines(rt.alloc(), &changes)?;
+    person.show(&text)
+}
+
+/// Finds that a plan may replace that of an archive: it has each of its classes, and once it was shown what that changes in the
+/// classes and for the records, a person agrees. `BadData` where a class is left out, before anything is shown; `Usage` where the
+/// person does not agree.
+fn judge_replacement<P: Person, S: Alter>(
+    rt: &HostRuntime,
+    person: &mut P,
     archive: &mut StoreLedger<'_, S>,
     plan: &Plan,
     path: &str,
     is_agreed: bool,
 ) -> Result<(), Failure>
-    ensures { KeepsAll (keeper_of S.Store) archive.old archive.new }
+    ensures kept { KeepsAll (keeper_of S.Store) archive.old archive.new }
+    ensures agreed { OnOk result (AgreesToPlan P.made person.old person.new
+        (class_lines_of (store_of archive.old.kept).plan plan.now) is_agreed) }
 {
-    judge_classes(rt, archive.plan(), plan, path)?;
-    write_text(rt, &class_lines(rt.alloc(), archive.plan(), plan)?)?;
-    let changes = changes_by(rt, archive, plan, today(rt)?)?;
-    write_text(rt, &changes_lines(rt.alloc(), &changes)?)?;
-    if is_agreed || agrees(rt, "replace the plan?") {
-        return Ok(());
-    }
-    Err(Failure::told(
+    let present = archive.plan();
+    judge_classes(rt, present, plan, path)?;
+    show_classes(rt.alloc(), person, present, plan)?;
+    show_changes(rt, person, archive, plan)?;
+    judge_consent(
         rt.alloc(),
-        Status::Usage,
+        person,
+        is_agreed,
+        "replace the plan?",
         "the plan is not replaced; --yes replaces it",
-    ))
+    )
 }
 
-/// Replaces the plan of an archive by that of the file at a path, once it was printed what that changes in the classes and for the
-/// records, and someone agrees. `BadData` where the new plan leaves out a class of the present one, before anything is printed;
-/// `Usage` where nobody agrees.
+/// Replaces the plan of an archive by that of the file at a path, once it was shown what that changes in the classes and for the
+/// records, and a person agrees, who is asked unless `--yes` is typed. `BadData` where the new plan leaves out a class of the present
+/// one, before anything is shown; `Usage` where the person does not agree.
 ///
-/// Where it succeeds, the new plan is that of the archive, and nothing else of it has changed. Where it fails, nothing has changed.
+/// Where it succeeds, the person agreed, the new plan is that of the archive, and nothing else of it has changed. Where it fails,
+/// nothing has changed.
+pub fn replace_plan_by<P: Person, S: Alter>(
+    rt: &HostRuntime,
+    person: &mut P,
+    archive: &mut StoreLedger<'_, S>,
+    plan: Plan,
+    path: &str,
+    is_agreed: bool,
+) -> Result<(), Failure>
+    ensures falls { WasClean (keeper_of S.Store) archive.old archive.new }
+    ensures done { OnOk result (Replaces (keeper_of S.Store) archive.old archive.new plan) }
+    ensures failed { OnErr result (KeepsAll (keeper_of S.Store) archive.old archive.new) }
+    ensures agreed { OnOk result (AgreesToPlan P.made person.old person.new
+        (class_lines_of (store_of archive.old.kept).plan plan) is_agreed) }
+{
+    judge_replacement(rt, person, archive, &plan, path, is_agreed)?;
+    archive
+        .revise(plan)
+        .map_err(|fault| Failure::of_store(rt.alloc(), path, fault))
+}
+
+/// The same by the person at the terminal.
 pub fn replace_plan<S: Alter>(
     rt: &HostRuntime,
     archive: &mut StoreLedger<'_, S>,
@@ -109,10 +166,7 @@ pub fn replace_plan<S: Alter>(
     ensures done { OnOk result (Replaces (keeper_of S.Store) archive.old archive.new plan) }
     ensures failed { OnErr result (KeepsAll (keeper_of S.Store) archive.old archive.new) }
 {
-    judge_replacement(rt, archive, &plan, path, is_agreed)?;
-    archive
-        .revise(plan)
-        .map_err(|fault| Failure::of_store(rt.alloc(), path, fault))
+    replace_plan_by(rt, &mut Terminal { rt }, archive, plan, path, is_agreed)
 }
 
 /// Writes a plan to standard output as the text of a plan file. It is read back before, and is the same plan.
