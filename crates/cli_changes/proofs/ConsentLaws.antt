@@ -1,7 +1,11 @@
 -- Calls of a person that are made one after the other.
-use Rattle.std.proofs.Common.{◌≡◌, ℕ, Bool, true, List, [], ◌∷◌, ◌++◌, Result, Ok, Err, OnErr, OnOk, inl, sym, subst, is_ok}
+use Rattle.std.proofs.Common.{◌≡◌, ℕ, Bool, true, List, [], ◌∷◌, ◌++◌, Result, Ok, Err, OnErr, OnOk, inl, is_ok}
+use Rattle.std.proofs.Common.{length, refl, sym, subst, arith}
 use Rattle.std.proofs.lemmas.List.{append-nil, append_assoc}
+use Rattle.record_archive.specs.Archive.{Archive}
+use Rattle.record_archive.specs.Calls.{Keeper}
 use Rattle.cli_changes.specs.Consents.{AsksFor, Call, IsDenied, Makes, show}
+use Rattle.cli_changes.specs.Series.{KeepsAll}
 
 pub none_made : {P : Type 0} (made : P → List Call → Type 0) (a : P) → Makes made a a []
 none_made {P} made a done h = subst (λ (l : List Call). made a l) (sym (append-nil done)) h
@@ -30,7 +34,16 @@ on_ok (Ok x) Q q = q
 on_ok (Err e) Q q = tt
 
 -- a text was shown where that succeeds
-pub shown_on_ok : {P T E : Type 0} (made : P → List Call → Type 0) (old new : P) (text target : List ℕ) (r : Result T E) → text ≡ target
-    → Makes made old new (show text (is_ok r) ∷ []) → OnOk r (Makes made old new (show target true ∷ []))
-shown_on_ok {P} {T} {E} made old new text target (Ok x) same told = subst (λ (t : List ℕ). Makes made old new (show t true ∷ [])) same told
+pub shown_on_ok : {P T E : Type 0} (made : P → List Call → Type 0) (old new : P) (text target : List ℕ) (r : Result T E)
+    → text ≡ target → Makes made old new (show text (is_ok r) ∷ []) → OnOk r (Makes made old new (show target true ∷ []))
+shown_on_ok {P} {T} {E} made old new text target (Ok x) same told =
+    subst (λ (t : List ℕ). Makes made old new (show t true ∷ [])) same told
 shown_on_ok {P} {T} {E} made old new text target (Err e) same told = tt
+
+-- nothing was done
+pub keeps_here : {A : Type 0} (k : Keeper A Archive) (here : A) → KeepsAll k here here
+keeps_here k here = record { stands = λ a stands. stands; falls = λ clean. clean }
+
+pub no_items : {X : Type 0} (xs : List X) → length xs ≡ 0 → xs ≡ []
+no_items [] none = refl
+no_items (x ∷ xs) none = absurd (omega (arith, none))

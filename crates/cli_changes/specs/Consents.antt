@@ -59,8 +59,14 @@ abbrev pub AgreesToPlan : {P : Type 0} (made : P → List Call → Type 0) (old 
 AgreesToPlan made old new classes is_typed =
     (records : List ℕ) × AsksAfter made old new (show classes true ∷ show records true ∷ []) to_replace is_typed true
 
--- A REFILING IS AGREED TO: no record gets the class, and nobody is asked; or what it changes is shown before, in all
+-- a refiling is judged: no record gets the class, and nobody is asked; or what it changes is shown before, in all, and agreed to
 abbrev pub AgreesToMoves : {P : Type 0} (made : P → List Call → Type 0) (old new : P) → MoveTally → (is_typed : Bool) → Type 0
 AgreesToMoves made old new tally is_typed =
     ((tally.count ≡ 0) × Makes made old new [])
     ⊎ AsksAfter made old new (show (moves_lines tally) true ∷ []) to_refile is_typed true
+
+-- A REFILING IS AGREED TO: it moves no record, and nobody is asked; or sums of what it changes are shown before
+abbrev pub RefilesAgreed : {P : Type 0} (made : P → List Call → Type 0) (old new : P) (is_typed : Bool) (MovesNone : Type 0) → Type 0
+RefilesAgreed made old new is_typed MovesNone =
+    (MovesNone × Makes made old new [])
+    ⊎ ((tally : MoveTally) × AsksAfter made old new (show (moves_lines tally) true ∷ []) to_refile is_typed true)

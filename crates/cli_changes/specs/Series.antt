@@ -77,3 +77,7 @@ ChangesAll k old new made meant Well = IsSoOf k old new (λ a. k.stands new (mad
 abbrev pub ChangesFirst : {A : Type 0} → Keeper A Archive → (old new : A) → (made : List ℕ → Archive → Archive)
     → (meant : Archive → List ℕ) → Type 0
 ChangesFirst k old new made meant = IsSoOf k old new (λ a. (n : ℕ) × k.stands new (made (take n (meant a)) a))
+
+-- NONE IS MEANT, so that nothing changes
+abbrev pub MovesNone : {A : Type 0} → Keeper A Archive → (old new : A) → (meant : Archive → List ℕ) → Type 0
+MovesNone k old new meant = IsSoOf k old new (λ a. meant a ≡ [])

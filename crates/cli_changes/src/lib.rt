@@ -85,8 +85,8 @@ pub use no_mail::refuse_no_mail;
 pub use plan::{replace_plan, replace_plan_by, write_plan};
 pub use plan_file::read_plan;
 pub use refile::{
-    MoveTally, Moves, RefilingTo, judge_moves, judge_refiling, moves_shown, refile_listed,
-    refile_records,
+    MoveTally, Moves, RefilingTo, judge_moves, judge_moves_by, judge_refiling, moves_shown,
+    refile_listed, refile_records, refile_records_by,
 };
 pub use rounds::{Round, Rounds};
 pub use rule_checks::check_rules;

@@ -1,6 +1,6 @@
 //! `refile`: records that get another class of the plan.
 
-ghost use Rattle.std.specs.Prelude.{◌≡◌, ◌||◌, ◌∷◌, ◌++◌, [], true, false, not, IfOk, IsOk, OnErr, OnOk};
+ghost use Rattle.std.specs.Prelude.{◌≡◌, ◌⊎◌, ◌||◌, ◌∷◌, ◌++◌, [], true, false, not, IfOk, IsOk, OnErr, OnOk};
 ghost use Rattle.class_plan.specs.Plans.{has};
 ghost use Rattle.cli_choice.specs.Reads.{IsReadOf};
 ghost use Rattle.record_archive.specs.Archive.{Archive};
@@ -32,9 +32,11 @@ ghost use Rattle.cli_changes.specs.RefilingLines.{
   refiled_line as refiled_line_of,
   there_words,
 };
-ghost use Rattle.cli_changes.specs.Series.{ChangesAll, ChangesFirst, WasClean};
+ghost use Rattle.cli_changes.specs.Consents.{AgreesToMoves, Makes, RefilesAgreed, show};
+ghost use Rattle.cli_changes.specs.Series.{ChangesAll, ChangesFirst, KeepsAll, MovesNone, WasClean};
 ghost use Rattle.std.specs.List.{list_any};
 
+use crate::consent::{Person, Terminal, judge_consent};
 use crate::due_today::{DueToday, put_due_today};
 use crate::refilings::{Fate, fate_of, gets};
 use crate::series::{
@@ -43,7 +45,7 @@ use crate::series::{
 use choice_words::TypedNumbers;
 use class_plan::{Date, Plan};
 use cli_choice::Questions;
-use cli_console::{Failure, Reader, Search, Status, agrees, tell, tell_words, today, write_text};
+use cli_console::{Failure, Reader, Search, Status, tell, tell_words, today, write_text};
 use cli_history::StoreLedger;
 use cli_texts::{Headers, due_by, put_number};
 use command_lines::archives::{Choice, Refiling};
@@ -422,26 +424,52 @@ impl<S: Alter> RecordChange<StoreLedger<'_, S>> for RefilingTo<'_> {
     }
 }
 
-/// Writes how many records get another class, and finds that someone agrees to that, else `Usage`. Where none does, this is told, and
-/// nobody is asked.
+/// Shows how many records get another class.
+fn show_moves<P: Person>(alloc: Global, person: &mut P, tally: MoveTally) -> Result<(), Failure>
+    ensures { OnOk result (Makes P.made person.old person.new
+        (show (moves_lines tally) true ∷ [])) }
+{
+    let text = tally.text(alloc)?;
+    person.show(&text)
+}
+
+/// Tells that no record gets another class, unless a record that is typed is refused, which was told.
+fn tell_no_moves(rt: &HostRuntime, tally: MoveTally) {
+    if !tally.is_refused {
+        tell_words(rt, "none of these records gets another class");
+    }
+}
+
+/// Shows how many records get another class, and finds that a person agrees to that, who is asked unless `--yes` is typed; else `Usage`.
+/// Where none does, this is told, and nobody is asked.
+pub fn judge_moves_by<P: Person>(
+    rt: &HostRuntime,
+    person: &mut P,
+    tally: MoveTally,
+    is_agreed: bool,
+) -> Result<(), Failure>
+    ensures none { tally.count ≡ 0 → IsOk result }
+    ensures agreed { OnOk result (AgreesToMoves P.made person.old person.new tally is_agreed) }
+{
+    if tally.count == 0 {
+        tell_no_moves(rt, tally);
+        return Ok(());
+    }
+    show_moves(rt.alloc(), person, tally)?;
+    judge_consent(
+        rt.alloc(),
+        person,
+        is_agreed,
+        "refile these records?",
+        "no record is refiled; --yes refiles them",
+    )
+}
+
+/// The same of the person at the terminal.
 pub fn judge_moves(rt: &HostRuntime, tally: MoveTally, is_agreed: bool) -> Result<(), Failure>
     ensures { tally.count ≡ 0 → IsOk result }
 {
-    if tally.count == 0 {
-        if !tally.is_refused {
-            tell_words(rt, "none of these records gets another class");
-        }
-        return Ok(());
-    }
-    write_text(rt, &tally.text(rt.alloc())?)?;
-    if is_agreed || agrees(rt, "refile these records?") {
-        return Ok(());
-    }
-    Err(Failure::told(
-        rt.alloc(),
-        Status::Usage,
-        "no record is refiled; --yes refiles them",
-    ))
+    judge_moves_by(rt, &mut Terminal { rt }, tally, is_agreed)
 }
 
 /// The numbers of records that get a class.
@@ -482,17 +510,59 @@ impl Reader for Movers<'_> {
     ghost takes_more = { λ x y z a es fs one other. more_movers x y z es fs one other };
 }
 
-/// Gives the records that are found another class of the plan, once it was written what that changes, for each and in all, and
-/// someone agrees. Each move is one transaction with its event. Records that are in that class already, or destroyed, are passed
-/// over; those of them that are typed by themselves are told.
+/// Gives the records that are found another class of the plan, once it was shown what that changes, for each and in all, and a person
+/// agrees, who is asked unless `--yes` is typed. Each move is one transaction with its event. Records that are in that class already, or
+/// destroyed, are passed over; those of them that are typed by themselves are told.
 ///
 /// `BadData` where the store has no history, where a class is none of the plan (59), and in the end where a record that is typed
-/// is not found (80), does not meet the conditions or is destroyed (84); `Usage` where nobody agrees; `TryAgain` where the database
-/// refuses, after those that were refiled before.
+/// is not found (80), does not meet the conditions or is destroyed (84); `Usage` where the person does not agree; `TryAgain` where
+/// the database refuses, after those that were refiled before.
 ///
 /// Where it succeeds, each record that is found, is live and in another class is in this class of the plan, and nothing else of the
 /// archive has changed. Where it fails, it is so for the first of them, in the order of their numbers, up to one of them, none or
-/// all, and nothing else has changed.
+/// all, and nothing else has changed; and nothing at all, unless the person agreed.
+pub fn refile_records_by<P: Person, S: Alter>(
+    rt: &HostRuntime,
+    person: &mut P,
+    ledger: &mut StoreLedger<'_, S>,
+    refiling: Refiling<'_>,
+    choice: &Choice<'_>,
+    questions: &Questions,
+) -> Result<(), Failure>
+    ensures falls { WasClean (keeper_of S.Store) ledger.old ledger.new }
+    ensures noted { OnOk result (keeps_history ledger.old.kept ≡ true) }
+    ensures done { OnOk result (ChangesAll (keeper_of S.Store) ledger.old ledger.new
+        (moved_to refiling.entry.to.now)
+        (λ a. moving_numbers refiling.entry.to.now (found_in choice.now questions.now a))
+        (λ a. RefilesWell refiling.entry.to.now choice.now.numbers.items
+        (found_in choice.now questions.now a) a)) }
+    ensures failed { OnErr result (ChangesFirst (keeper_of S.Store) ledger.old ledger.new
+        (moved_to refiling.entry.to.now)
+        (λ a. moving_numbers refiling.entry.to.now (found_in choice.now questions.now a))) }
+    ensures agreed { OnOk result (RefilesAgreed P.made person.old person.new
+        refiling.entry.is_agreed (MovesNone (keeper_of S.Store) ledger.old ledger.new
+        (λ a. moving_numbers refiling.entry.to.now (found_in choice.now questions.now a)))) }
+    ensures denied { OnErr result (KeepsAll (keeper_of S.Store) ledger.old ledger.new
+        ⊎ RefilesAgreed P.made person.old person.new
+        refiling.entry.is_agreed (MovesNone (keeper_of S.Store) ledger.old ledger.new
+        (λ a. moving_numbers refiling.entry.to.now (found_in choice.now questions.now a)))) }
+{
+    let to = refiling.to.as_bytes();
+    let is_noted = ledger.is_noted();
+    judge_refiling(rt, is_noted, ledger.plan_kept(), to)?;
+    let day = today(rt)?;
+    let volume = None;
+    let moves = moves_shown(rt, ledger, volume, to, day, choice, questions)?;
+    judge_moves_by(rt, person, moves.tally(), refiling.is_agreed)?;
+    change_all(
+        &RefilingTo { rt, volume, to },
+        ledger,
+        moves.numbers.as_slice(),
+    )?;
+    judge_refused(moves.is_refused)
+}
+
+/// The same by the person at the terminal.
 pub fn refile_records<S: Alter>(
     rt: &HostRuntime,
     ledger: &mut StoreLedger<'_, S>,
@@ -511,19 +581,14 @@ pub fn refile_records<S: Alter>(
         (moved_to refiling.entry.to.now)
         (λ a. moving_numbers refiling.entry.to.now (found_in choice.now questions.now a))) }
 {
-    let to = refiling.to.as_bytes();
-    let is_noted = ledger.is_noted();
-    judge_refiling(rt, is_noted, ledger.plan_kept(), to)?;
-    let day = today(rt)?;
-    let volume = None;
-    let moves = moves_shown(rt, ledger, volume, to, day, choice, questions)?;
-    judge_moves(rt, moves.tally(), refiling.is_agreed)?;
-    change_all(
-        &RefilingTo { rt, volume, to },
+    refile_records_by(
+        rt,
+        &mut Terminal { rt },
         ledger,
-        moves.numbers.as_slice(),
-    )?;
-    judge_refused(moves.is_refused)
+        refiling,
+        choice,
+        questions,
+    )
 }
 
 /// The numbers of the records that are found and get a class, in their order.

@@ -1,4 +1,4 @@
-use Rattle.std.proofs.Common.{true, [], ◌∷◌, ◌++◌, subst}
+use Rattle.std.proofs.Common.{true, [], ◌∷◌, subst}
 use Rattle.std.proofs.lemmas.Result.{on_ok_weaker}
 use Rattle.class_plan.specs.Plans.{Listing}
 use Rattle.record_ledger.specs.Ledgers.{store_of}
