@@ -16,7 +16,7 @@ use cli_history::{
 };
 use cli_volumes::{
     FolderLock, NoVolumes, Seen, VolumeFolder, clear_draft, create_folder, has_volumes,
-    lock_folder, note_begun, octets_of, path_of, place_volume, remove_folder, row_in,
+    lock_folder, note_begun, octets_of, path_of, place_volume, remove_folder, row_in, seen_in,
     volume_for_capture,
 };
 use command_lines::archives::{Attribution, Reasons};
@@ -383,26 +383,13 @@ struct Folder<'a, A> {
     lock: Option<FolderLock>,
 }
 
-impl<A: Archives> Folder<'_, A> {
-    /// What is looked at.
-    fn seen(&self) -> Result<Seen, NoVolumes> {
-        let row = row_in(self.rt, self.path)?;
-        Ok(Seen {
-            last: row.last,
-            octets: octets_of(self.rt, self.path, row.last)?,
-            begun: row.sheet.begun,
-            size: row.sheet.size,
-        })
-    }
-}
-
 impl<A: Archives> VolumeFolder for Folder<'_, A> {
     type Fault = Failure;
 
     ghost made = { λ _ _. Unit {0} };
 
     fn look(&mut self) -> Result<Seen, Failure> {
-        had(self.rt, self.path, self.seen())
+        had(self.rt, self.path, seen_in(self.rt, self.path))
     }
 
     fn lock(&mut self) -> Result<(), Failure> {

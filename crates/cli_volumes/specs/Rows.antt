@@ -4,6 +4,8 @@ use Rattle.record_volumes.specs.Rows.{greatest, missing}
 use Rattle.cli_volumes.specs.Names.{volume_named}
 use Rattle.cli_volumes.specs.declared.sheet.Sheet.{Sheet}
 use Rattle.cli_volumes.specs.declared.row.Row.{Row}
+use Rattle.cli_volumes.specs.declared.fault.NoVolumes.{NoVolumes}
+use Rattle.cli_volumes.specs.declared.fault.NoVolumes.TheVariants as cause
 use Rattle.cli_volumes.specs.declared.listing.Judged.{Judged}
 use Rattle.cli_volumes.specs.declared.listing.Judged.TheVariants.{Whole, Missing, Empty}
 
@@ -41,6 +43,12 @@ abbrev pub IsJudged : (leads : ℕ → Bool → Type 0) → Sheet → (named : L
 IsJudged leads sheet named (Whole row) = IsRowOf leads sheet named row
 IsJudged leads sheet named (Missing vs) = LackNames sheet named vs.items ⊎ LackFiles leads sheet named vs.items
 IsJudged leads sheet named Empty = last_of sheet named ≡ 0
+
+-- why there is no row is told so
+abbrev pub IsToldFor : Judged → NoVolumes → Type 0
+IsToldFor (Whole row) fault = ⊥
+IsToldFor (Missing vs) fault = fault ≡ cause.Missing vs
+IsToldFor Empty fault = fault ≡ cause.Unfinished
 
 -- that is the row of a folder which was found to have a sheet, names, and files
 abbrev pub JudgedOf : {F : Type 0} (says : F → Sheet → Type 0) (has : F → List (List ℕ) → Type 0) (leads : F → ℕ → Bool → Type 0) → F

@@ -11,8 +11,8 @@
 //! - `fault`: why there is no archive of volumes, in words.
 //!
 //! No store is opened here. In `specs/`, `Names` says which names are those of volumes, `Sheets` how the file `volumes` is spelled, `Rows`
-//! which row a folder has, `Finding` by which calls a volume is found for a message, and `Adopting` by which calls a store becomes a first
-//! volume.
+//! which row a folder has, `Seeing` what a look at it sees, `Finding` by which calls a volume is found for a message, and `Adopting` by
+//! which calls a store becomes a first volume.
 #![tactic(auto)]
 
 mod adopting;
@@ -27,12 +27,12 @@ mod sheet;
 
 pub use adopting::{AdoptingFolder, adopt_into};
 pub use fault::NoVolumes;
-pub use listing::{Judged, ListedFolder, judge_folder};
+pub use listing::{Judged, ListedFolder, judge_folder, row_over, see};
 pub use making::{clear_draft, create_folder, note_begun, place_volume, remove_folder};
 pub use moving::{
     begin_copy, end_copy, judge_new_folder, judge_own_name, move_to_first, remove_copy, remove_log,
 };
 pub use names::{path_of, volume_name, volume_of};
 pub use rolling::{Seen, Step, VolumeFolder, volume_for_capture};
-pub use row::{FolderLock, Row, has_volumes, lock_folder, octets_of, row_in};
+pub use row::{FolderLock, Row, has_volumes, lock_folder, octets_of, row_in, seen_in};
 pub use sheet::{Sheet, read_sheet, sheet_text};

@@ -1,11 +1,13 @@
 //! The row of the volumes in a folder, as its sheet, its names and its files give it.
 
-ghost use Rattle.std.specs.Prelude.{◌≡◌, [], ℕ, Bool, List, IfOk};
+ghost use Rattle.std.specs.Prelude.{◌≡◌, ◌≤◌, [], ℕ, Bool, List, IfErr, IfOk};
 ghost use Rattle.record_volumes.specs.Rows.{missing};
-ghost use Rattle.cli_volumes.specs.Rows.{AreThere, IsJudged, JudgedOf, last_of, volumes_in};
+ghost use Rattle.cli_volumes.specs.Rows.{AreThere, IsJudged, IsToldFor, JudgedOf, last_of, volumes_in};
+ghost use Rattle.cli_volumes.specs.Seeing.{SeenOf};
 ghost use Rattle.cli_volumes.specs.declared.sheet.Sheet.{Sheet};
 
 use crate::fault::NoVolumes;
+use crate::rolling::Seen;
 use crate::row::Row;
 use crate::sheet::Sheet;
 use record_volumes::{RowFault, judge_row};
@@ -33,6 +35,9 @@ pub trait ListedFolder {
     /// The name of this volume was found to lead to a file, or to none.
     ghost leads: { Self → ℕ → Bool → Type 0 };
 
+    /// The file of this volume was found to have so many octets.
+    ghost measures: { Self → ℕ → ℕ → Type 0 };
+
     /// The sheet of the folder.
     fn sheet(&self) -> Result<Sheet, NoVolumes>
         ensures { IfOk result (says self.now) };
@@ -46,6 +51,10 @@ pub trait ListedFolder {
     /// change.
     fn is_there(&self, volume: u32) -> Result<bool, NoVolumes>
         ensures { IfOk result (leads self.now volume) };
+
+    /// How many octets the file of a volume has.
+    fn octets(&self, volume: u32) -> Result<u64, NoVolumes>
+        ensures { IfOk result (measures self.now volume) };
 }
 
 /// Those of some volumes that are there.
@@ -117,4 +126,40 @@ pub fn judge_folder<F: ListedFolder>(alloc: Global, folder: &F) -> Result<Judged
     let sheet = folder.sheet()?;
     let named = folder.volumes_named()?;
     judge_named(alloc, folder, sheet, named.as_slice())
+}
+
+/// The row that was judged, or why there is none.
+fn row_of(judged: Judged) -> Result<Row, NoVolumes>
+    ensures whole { IfOk result (λ row. judged ≡ Judged.Whole row) }
+    ensures told { IfErr result (IsToldFor judged) }
+{
+    match judged {
+        Judged::Whole(row) => Ok(row),
+        Judged::Missing(volumes) => Err(NoVolumes::Missing(volumes)),
+        Judged::Empty => Err(NoVolumes::Unfinished),
+    }
+}
+
+/// The row of the volumes in a folder: of one at least.
+pub fn row_over<F: ListedFolder>(alloc: Global, folder: &F) -> Result<Row, NoVolumes>
+    ensures row { IfOk result
+        (λ row. JudgedOf F.says F.has F.leads folder.now (Judged.Whole row)) }
+    ensures some { IfOk result (λ row. 1 ≤ row.last) }
+{
+    let judged = judge_folder(alloc, folder)?;
+    row_of(judged)
+}
+
+/// What a look at a folder sees: the last volume of its row, how many octets that has, and what its sheet says.
+pub fn see<F: ListedFolder>(alloc: Global, folder: &F) -> Result<Seen, NoVolumes>
+    ensures { IfOk result (SeenOf F.says F.has F.leads F.measures folder.now) }
+{
+    let row = row_over(alloc, folder)?;
+    let octets = folder.octets(row.last)?;
+    Ok(Seen {
+        last: row.last,
+        octets,
+        begun: row.sheet.begun,
+        size: row.sheet.size,
+    })
 }

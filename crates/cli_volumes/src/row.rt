@@ -4,8 +4,9 @@ ghost use Rattle.std.specs.Prelude.{◌≡◌, ◌≤◌, ◌∷◌, ◌++◌, [
 ghost use Rattle.cli_volumes.specs.Rows.{volumes_in};
 
 use crate::fault::NoVolumes;
-use crate::listing::{Judged, ListedFolder, judge_folder};
+use crate::listing::{ListedFolder, row_over, see};
 use crate::names::{path_in, path_of, volume_of};
+use crate::rolling::Seen;
 use crate::sheet::{Sheet, read_sheet};
 use std::alloc::AllocError;
 use std::fs::{self, DirEntry, File, OpenOptions};
@@ -153,6 +154,8 @@ impl ListedFolder for FolderAt<'_> {
 
     ghost leads = { λ _ _ _. Unit {0} };
 
+    ghost measures = { λ _ _ _. Unit {0} };
+
     fn sheet(&self) -> Result<Sheet, NoVolumes> {
         sheet_in(self.rt, self.path)
     }
@@ -168,6 +171,10 @@ impl ListedFolder for FolderAt<'_> {
         }
         judge_log(self.rt, self.path, volume)?;
         Ok(true)
+    }
+
+    fn octets(&self, volume: u32) -> Result<u64, NoVolumes> {
+        octets_of(self.rt, self.path, volume)
     }
 }
 
@@ -201,11 +208,12 @@ pub fn has_volumes(rt: &HostRuntime, path: &str) -> Result<bool, AllocError> {
 pub fn row_in(rt: &HostRuntime, folder: &str) -> Result<Row, NoVolumes>
     ensures { IfOk result (λ row. 1 ≤ row.last) }
 {
-    match judge_folder(rt.alloc(), &FolderAt { rt, path: folder })? {
-        Judged::Whole(row) => Ok(row),
-        Judged::Missing(volumes) => Err(NoVolumes::Missing(volumes)),
-        Judged::Empty => Err(NoVolumes::Unfinished),
-    }
+    row_over(rt.alloc(), &FolderAt { rt, path: folder })
+}
+
+/// What a look at a folder sees, whose row there is as for `row_in`.
+pub fn seen_in(rt: &HostRuntime, folder: &str) -> Result<Seen, NoVolumes> {
+    see(rt.alloc(), &FolderAt { rt, path: folder })
 }
 
 /// How many octets the file of a volume has, or the file that a link in its place leads to.
