@@ -22,6 +22,7 @@ pub mod DueListLaws
 pub mod ApprovalLaws
 pub mod ReasonLaws
 mod ChangeRows
+mod ConsentRows
 mod ImportRows
 mod MoveRows
 mod RoundRows
