@@ -2,6 +2,7 @@
 
 ghost use Rattle.std.specs.Prelude.{◌<◌, ◌^◌, IfOk, IfSome};
 ghost use Rattle.desk_commands.specs.Payloads.{IsOf};
+ghost use Rattle.cli_sources.specs.Reading.{IsWithin};
 
 use desk_commands::Payload;
 use std::alloc::Global;
@@ -26,7 +27,8 @@ fn read_with_room<R: Read + Drop>(
     room: usize,
 ) -> io::Result<Payload>
     requires { limit < 2 ^ 32 }
-    ensures { IfOk result (λ p. IfSome (R.remaining reader) (IsOf limit p)) }
+    ensures all { IfOk result (λ p. IfSome (R.remaining reader) (IsOf limit p)) }
+    ensures within { IfOk result (IsWithin limit) }
 {
     let mut octets = Vec::with_capacity(alloc, room)?;
     reader.take(limit as u64 + 1).read_to_end(&mut octets)?;
@@ -77,6 +79,7 @@ fn payload_of_found(
     limit: usize,
 ) -> io::Result<Payload>
     requires { limit < 2 ^ 32 }
+    ensures { IfOk result (IsWithin limit) }
 {
     if !found.is_file() {
         return Err(no_file());
@@ -93,6 +96,7 @@ fn payload_of_found(
 /// The octets of a regular file as a payload. A pipe, a folder and the like are not read, which could wait for ever.
 pub fn payload_of_file(rt: &HostRuntime, path: &str, limit: usize) -> io::Result<Payload>
     requires { limit < 2 ^ 32 }
+    ensures { IfOk result (IsWithin limit) }
 {
     payload_of_found(rt, path, &fs::metadata(rt, path)?, limit)
 }
@@ -100,6 +104,7 @@ pub fn payload_of_file(rt: &HostRuntime, path: &str, limit: usize) -> io::Result
 /// The same, where a link is no regular file either, whatever it leads to.
 pub fn payload_of_no_link(rt: &HostRuntime, path: &str, limit: usize) -> io::Result<Payload>
     requires { limit < 2 ^ 32 }
+    ensures { IfOk result (IsWithin limit) }
 {
     payload_of_found(rt, path, &fs::symlink_metadata(rt, path)?, limit)
 }

@@ -13,8 +13,8 @@ all_came limit n (Some xs) asked octets before e same none told short =
     let are : octets ≡ take n xs = came ∙ ap (λ (ys : List ℕ). ys ++ take n xs) none in
     are ∙ take_all n xs (omega (arith, ap length are, length-take n xs))
 
-pub returns : goal.returns
-returns g c =
+pub returns-clause-all : goal.returns-clause-all
+returns-clause-all g c =
     let t = c.take.result in
     all_came c.args.limit t.limit (g.R.Read.remaining c.args.reader) (g.R.Read.remaining t.inner) c.read_to_end.new.buf.items
     c.in_ok-octets.octets.items c.take.ensures.limit (ap g.R.Read.remaining c.take.ensures.inner) c.in_ok-octets.ensures.items
