@@ -1,5 +1,5 @@
 -- What an import did in its room, by what was found.
-use Rattle.std.proofs.Common.{◌≡◌, ◌∷◌, [], ◌++◌, ℕ, List, Bool, true, false, Ok, Err, Result, refl, sym, ap, subst, inl, inr, ◌∙◌}
+use Rattle.std.proofs.Common.{◌≡◌, ◌∷◌, [], ℕ, List, Bool, true, false, Ok, Err, Result, refl, sym, ap, subst, inl, inr, ◌∙◌}
 use Rattle.std.specs.Prelude.{is_ok, IfOk}
 use Rattle.cli_console.specs.declared.failure.Failure.{Failure}
 use Rattle.mail_import.specs.Calls.{Call, answer_of, capture}
@@ -9,7 +9,7 @@ use Rattle.mail_import.specs.Findings.{Finding, known_after_all, tallied_all}
 use Rattle.mail_import.specs.Sources.{Mail, OnlyMakes}
 use Rattle.mail_import.specs.declared.message.Progress.{Progress}
 use Rattle.mail_import.specs.declared.message.Terms.{Terms}
-use Rattle.mail_import.proofs.FindingLaws.{does_none, does_then, done_breaks, then_breaks}
+use Rattle.mail_import.proofs.FindingLaws.{does_none, then_breaks}
 use Rattle.mail_intake.specs.declared.mailroom.Refusal.TheVariants.{Stays, Ends}
 use Rattle.record_archive.specs.Archive.{Archive}
 use Rattle.record_archive.specs.Calls.{Keeper}
@@ -83,6 +83,31 @@ module _ {A : Type 0} (keeper : Keeper A Archive) (before : ImportRoom A) where
   captures_one after name moment octets answer true stops takes = stops_one after name moment octets answer (stops refl)
   captures_one after name moment octets answer false stops takes = takes_one after name moment octets answer (takes refl)
 
+-- a source that is begun, and one that is ended
+pub source_begun : {A : Type 0} (keeper : Keeper A Archive) (a b : ImportRoom A) → IsQuiet a b
+    → OnlyMakes (Goes keeper) (λ _ _. ⊥) a b []
+source_begun keeper a b quiet = record {
+  made = record {
+    job = quiet.job;
+    volume = ap (λ (p : Place). p.volume) quiet.place.place;
+    messages = ap (λ (r : Reached). r.messages) quiet.place.reached;
+    desk = quiet.desk;
+  };
+  kept = λ m h. h;
+}
+
+pub source_ended : {A : Type 0} (keeper : Keeper A Archive) (a b : ImportRoom A) → EndsSource a b
+    → OnlyMakes (Goes keeper) (λ _ _. ⊥) a b []
+source_ended keeper a b h = record {
+  made = record {
+    job = h.job;
+    volume = ap (λ (place : Place). place.volume) h.place;
+    messages = ap (λ (r : Reached). r.messages) h.reached;
+    desk = h.desk;
+  };
+  kept = λ m h. h;
+}
+
 module _ {A : Type 0} (keeper : Keeper A Archive) (terms : Terms) where
   -- nothing was found where no call was made
   still_does : (a b : ImportRoom A) (p : Progress) → Goes keeper a [] b → Does (Goes keeper) (λ _ _. ⊥) terms a p [] b p
@@ -93,38 +118,8 @@ module _ {A : Type 0} (keeper : Keeper A Archive) (terms : Terms) where
     right = (does_none (Goes keeper) (λ _ _. ⊥) (goes_none keeper) (goes_then keeper) terms a p).right;
   }
 
-  quiet_goes : (a b : ImportRoom A) → IsQuiet a b → Goes keeper a [] b
-  quiet_goes a b quiet = record {
-    job = quiet.job;
-    volume = ap (λ (p : Place). p.volume) quiet.place.place;
-    messages = ap (λ (r : Reached). r.messages) quiet.place.reached;
-    desk = quiet.desk;
-  }
-
-  pub quiet_finds : (a b : ImportRoom A) (p : Progress) → IsQuiet a b → Finds keeper terms a p b p
-  quiet_finds a b p quiet = record { findings = []; does = still_does a b p (quiet_goes a b quiet) }
-
-  -- after a source
-  pub source_finds : (a b : ImportRoom A) (p : Progress) → EndsSource a b → Finds keeper terms a p b p
-  source_finds a b p h = record {
-    findings = [];
-    does = still_does a b p (record {
-      job = h.job;
-      volume = ap (λ (place : Place). place.volume) h.place;
-      messages = ap (λ (r : Reached). r.messages) h.reached;
-      desk = h.desk;
-    });
-  }
-
   pub finds_none : (a : ImportRoom A) (p : Progress) → Finds keeper terms a p a p
   finds_none a p = record { findings = []; does = still_does a a p (goes_none keeper a) }
-
-  pub finds_then : (a b c : ImportRoom A) (p q r : Progress) → Finds keeper terms a p b q → Finds keeper terms b q c r
-      → Finds keeper terms a p c r
-  finds_then a b c p q r h k = record {
-    findings = h.findings ++ k.findings;
-    does = does_then (Goes keeper) (λ _ _. ⊥) (goes_none keeper) (goes_then keeper) terms a b c p q r h.findings k.findings h.does k.does;
-  }
 
   pub found_all : (Are : Mail → List Finding → Type 0) (a b : ImportRoom A) (p q : Progress)
       → TakesAll (Goes keeper) (λ _ _. ⊥) terms Are a p b q → Finds keeper terms a p b q
@@ -135,11 +130,6 @@ module _ {A : Type 0} (keeper : Keeper A Archive) (terms : Terms) where
   stops_then Are a b c p q r h k =
       then_breaks (Goes keeper) (λ _ _. ⊥) (goes_none keeper) (goes_then keeper) terms Are (λ m ss. Unit {0}) a b c p q r h.findings h.does k
       (λ m has ys are. ([], tt))
-
-  -- where a source cannot be begun
-  pub stops_quiet : (a b : ImportRoom A) (p : Progress) → IsQuiet a b → Stops keeper terms a p b p
-  stops_quiet a b p quiet = done_breaks (Goes keeper) (λ _ _. ⊥) (goes_none keeper) (goes_then keeper) terms
-      (λ m ss. Unit {0}) a b p p [] (still_does a b p (quiet_goes a b quiet)) (λ m has. ([], tt))
 
   pub import_whole : (a b : ImportRoom A) (p q : Progress) (done : Result Bool Failure) → Finds keeper terms a p b q
       → IfOk done (λ is_left. is_left ≡ false) → EndsWith (status_of q.tally) (ended_so done) → IsImport keeper terms p a b q done

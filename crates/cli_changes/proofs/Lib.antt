@@ -11,6 +11,7 @@ pub mod HoldLaws
 pub mod DayLaws
 pub mod DeliveryLaws
 pub mod ImportLaws
+pub mod SourceTaking
 pub mod IntakeLaws
 pub mod FoundLaws
 pub mod RefileLaws

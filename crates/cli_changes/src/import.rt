@@ -12,8 +12,6 @@ ghost use Rattle.std.specs.Prelude.{
   true,
   is_ok,
   IfOk,
-  OnErr,
-  OnOk,
 };
 ghost use Rattle.jiff.specs.Words.{epoch_day};
 ghost use Rattle.command_lines.specs.declared.archives.Moment.TheVariants as moment;
@@ -22,11 +20,9 @@ ghost use Rattle.cli_changes.specs.DisposalDays.{not_come_words as not_come_word
 ghost use Rattle.cli_changes.specs.Endings.{EndsWith};
 ghost use Rattle.record_ledger.specs.Ledgers.{keeper_of};
 ghost use Rattle.cli_changes.specs.Imports.{
-  Finds,
   ImportsNoting,
   IsImport,
   IsImportOf,
-  Stops,
   ended_so,
   notes_of,
   status_of,
@@ -40,18 +36,19 @@ use crate::intake_log::IntakeLog;
 use crate::moments::{Timing, small_day};
 use crate::rounds::Round;
 use crate::rules::FilingRules;
+use crate::sources::take_each;
 use crate::space::Place;
 use class_plan::{Date, day_number};
 use cli_console::{Failure, Status};
 use cli_history::StoreLedger;
 use command_lines::archives::{Dating as AskedDating, Import, Moment, Telling};
 use mail_dates::Dating;
-use mail_import::{ImportTally, Progress, Terms, import_sources};
+use mail_import::{ImportTally, Progress, Terms};
 use mail_sources::{Source, SourceFault, source_at};
 use record_archive::Records;
 use sqlite::Alter;
 use std::alloc::{AllocError, Global};
-use std::{io, mem, slice};
+use std::{io, mem};
 use tool_texts::Shown;
 
 /// How many seconds a day has.
@@ -242,44 +239,6 @@ fn broken_off(failure: Failure, is_full: bool) -> Result<bool, Failure>
     ensures ended { is_ok result ≡ is_full }
 {
     if is_full { Ok(true) } else { Err(failure) }
-}
-
-/// Takes the messages of a source, or those that are left of it.
-fn take_source<A: Records>(
-    alloc: Global,
-    room: &mut ImportRoom<'_, A>,
-    terms: &Terms,
-    progress: &mut Progress,
-    source: Source<'_>,
-) -> Result<(), Failure>
-    ensures taken { OnOk result
-        (Finds A.keeper terms.now room.old progress.old room.new progress.new) }
-    ensures ended { OnErr result
-        (Stops A.keeper terms.now room.old progress.old room.new progress.new) }
-{
-    room.begin_source(source)?;
-    import_sources(alloc, room, terms, progress, slice::from_ref(&source))?;
-    room.end_source();
-    Ok(())
-}
-
-/// Takes the messages of sources, one after the other.
-fn take_each<A: Records>(
-    alloc: Global,
-    room: &mut ImportRoom<'_, A>,
-    terms: &Terms,
-    progress: &mut Progress,
-    sources: &[Source<'_>],
-) -> Result<(), Failure>
-    ensures taken { OnOk result
-        (Finds A.keeper terms.now room.old progress.old room.new progress.new) }
-    ensures ended { OnErr result
-        (Stops A.keeper terms.now room.old progress.old room.new progress.new) }
-{
-    for source in sources {
-        take_source(alloc, room, terms, progress, *source)?;
-    }
-    Ok(())
 }
 
 /// Takes the messages of sources in a round, and says what became of all of them, unless messages are left for the next one.

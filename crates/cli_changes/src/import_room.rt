@@ -30,6 +30,7 @@ use crate::import_rounds::{ImportRounds, Reached};
 use crate::intake::maildir_failure;
 use crate::intake_room::{given_up, unfit, unread};
 use crate::rounds::Round;
+use crate::sources::SourceRoom;
 use crate::space::Place;
 use crate::time_limit::{TimeLimit, too_slow_reason};
 use class_plan::Plan;
@@ -547,4 +548,14 @@ impl<'a, A: Records> OldMailroom for ImportRoom<'a, A> {
     ghost goes_none = { goes_none A.keeper };
 
     ghost goes_then = { goes_then A.keeper };
+}
+
+impl<A: Records> SourceRoom for ImportRoom<'_, A> {
+    fn begin(&mut self, source: Source<'_>) -> Result<(), Failure> {
+        self.begin_source(source)
+    }
+
+    fn end(&mut self) {
+        self.end_source();
+    }
 }

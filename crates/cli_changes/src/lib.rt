@@ -10,7 +10,7 @@
 //!   as the calls of `mail_intake`; `intake_log`: what is said of its messages; `intake_memory`: what was said on a day;
 //! - `rounds`: the rounds of an intake, one for each volume of an archive of volumes; `space`: what is left in a volume;
 //! - `import`: old mail; `import_room`: the files, the desk and the log of an import, as the calls of `mail_import`;
-//!   `import_rounds`: its rounds; `import_log`: what is said of its messages; `no_mail`: what looks like no message;
+//!   `sources`: its sources, one after the other; `import_rounds`: its rounds; `import_log`: what is said of its messages; `no_mail`: what looks like no message;
 //! - `holds` and `whole_holds`: records that must not be destroyed, and the end of a hold on all of them; `keeping`: whether a
 //!   new plan keeps less;
 //! - `consent`: whether a person agrees to a change that was shown;
@@ -63,6 +63,7 @@ mod rules;
 mod rules_sum;
 mod runs;
 mod series;
+mod sources;
 mod space;
 mod time_limit;
 mod time_of_day;
@@ -92,6 +93,7 @@ pub use rounds::{Round, Rounds};
 pub use rule_checks::check_rules;
 pub use rules::{FilingRules, NamedRules};
 pub use series::judge_refused;
+pub use sources::{SourceRoom, take_each};
 pub use space::{Place, Space};
 pub use time_of_day::logged;
 pub use titles::{read_titles, set_titles};
