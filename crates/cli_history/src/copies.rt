@@ -8,14 +8,6 @@ use record_store::{EventRow, Store};
 use sqlite::Alter;
 use std::alloc::{AllocError, Global};
 
-/// Judges the events of a page.
-fn look_at_page(rt: &HostRuntime, watch: &mut Watch, page: &[EventRow]) -> Result<(), AllocError> {
-    for row in page {
-        watch.look_at(rt, row)?;
-    }
-    Ok(())
-}
-
 /// The lines of a history, and its last mark.
 pub struct Lines {
     lines: Vec<Vec<u8>>,
@@ -60,7 +52,7 @@ impl Lines {
             let Some(page) = events.next_page(rt, noted)? else {
                 break;
             };
-            look_at_page(rt, &mut watch, page.as_slice())?;
+            watch.look_at_page(rt, page.as_slice())?;
             lines.add_page(page)?;
         }
         lines.judged(rt.alloc(), &watch)

@@ -1,7 +1,11 @@
 //! The events of records that are taken out of a store, each with the marks by which it is checked.
 
-ghost use Rattle.std.specs.Prelude.{◌≡◌, ◌&&◌, is_none, is_ok, not};
-ghost use Rattle.cli_history.specs.Walks.{Glances};
+ghost use Rattle.std.specs.Prelude.{◌≡◌, ◌&&◌, ℕ, List, true, IfOk, IfSome, OnOk, is_none, is_ok, not};
+ghost use Rattle.sqlite.specs.State.{HasCleanDisk};
+ghost use Rattle.sqlite.specs.Held.{state};
+ghost use Rattle.record_noted.specs.Histories.{rows_of};
+ghost use Rattle.cli_history.specs.Lawful.{IsFirst, IsStill, JudgesNext};
+ghost use Rattle.cli_history.specs.Walks.{Glances, HasLines};
 
 use crate::chosen::records_of;
 use crate::pages::{Events, event_of};
@@ -99,7 +103,9 @@ impl<'s> Extract<'s> {
         archive: &Store<S>,
         volume: Option<u32>,
         subjects: &'s Subjects,
-    ) -> Result<Option<Extract<'s>>, AllocError> {
+    ) -> Result<Option<Extract<'s>>, AllocError>
+        ensures { IfOk result (λ x. IfSome x IsFirst) }
+    {
         match archive.event_layout() {
             EventLayout::Present => Ok(Some(Extract {
                 subjects,
@@ -113,7 +119,9 @@ impl<'s> Extract<'s> {
     }
 
     /// Tells that the line of an event cannot be read, unless that was told as it was judged.
-    fn tell_unread(&mut self, rt: &HostRuntime, row: &EventRow, words: &Shown) {
+    fn tell_unread(&mut self, rt: &HostRuntime, row: &EventRow, words: &Shown)
+        ensures { self.new ≡ record self.old { is_any_unread = true } }
+    {
         self.is_any_unread = true;
         if !self.watch.is_told(row.number) {
             self.watch.tell(rt, words);
@@ -121,23 +129,32 @@ impl<'s> Extract<'s> {
     }
 
     /// Adds the line of an event, where it is one of the records'. One that cannot be read is told.
-    fn take(
-        &mut self,
-        rt: &HostRuntime,
-        row: EventRow,
-        lines: &mut Vec<u8>,
-    ) -> Result<(), Failure> {
-        self.watch.look_at(rt, &row)?;
-        match event_of(rt.alloc(), &row) {
+    fn take(&mut self, rt: &HostRuntime, row: &EventRow, lines: &mut Vec<u8>) -> Result<(), Failure>
+        ensures { OnOk result (IsStill self.old self.new) }
+    {
+        match event_of(rt.alloc(), row) {
             Ok(event) if self.subjects.has(&event.deed) => {
-                push_taken(lines, self.before.as_slice(), &row)?;
+                Ok(push_taken(lines, self.before.as_slice(), row)?)
             }
-            Ok(_) => {}
-            Err(Failure::Told(_, words)) => self.tell_unread(rt, &row, &words),
-            Err(failure) => return Err(failure),
+            Ok(_) => Ok(()),
+            Err(Failure::Told(_, words)) => {
+                self.tell_unread(rt, row, &words);
+                Ok(())
+            }
+            Err(failure) => Err(failure),
         }
-        self.before = row.mark;
-        Ok(())
+    }
+
+    /// The lines of those events of a page that are about the records.
+    fn lines_of(&mut self, rt: &HostRuntime, page: Vec<EventRow>) -> Result<Vec<u8>, Failure>
+        ensures { OnOk result (IsStill self.old self.new) }
+    {
+        let mut lines = Vec::new(rt.alloc());
+        for row in page {
+            self.take(rt, &row, &mut lines)?;
+            self.before = row.mark;
+        }
+        Ok(lines)
     }
 
     /// The lines of those of the next events that are about the records; `None` at the end. A failure is that of the store.
@@ -146,15 +163,16 @@ impl<'s> Extract<'s> {
         rt: &HostRuntime,
         archive: &mut Store<S>,
     ) -> Result<Option<Vec<u8>>, Failure>
-        ensures { Glances S.Store archive.old archive.new }
+        ensures glances { Glances S.Store archive.old archive.new }
+        ensures judges { HasCleanDisk (state S.Store archive.new.conn) → (ls : List (List ℕ))
+            → HasLines S.Store archive.old ls
+            → IfOk result (JudgesNext (rows_of ls) self.old self.new) }
     {
         let Some(page) = self.events.next_page_of(rt, archive)? else {
             return Ok(None);
         };
-        let mut lines = Vec::new(rt.alloc());
-        for row in page {
-            self.take(rt, row, &mut lines)?;
-        }
+        self.watch.look_at_page(rt, page.as_slice())?;
+        let lines = self.lines_of(rt, page)?;
         Ok(Some(lines))
     }
 

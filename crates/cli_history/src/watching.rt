@@ -1,6 +1,6 @@
 //! A history that is judged while its events are read.
 
-ghost use Rattle.std.specs.Prelude.{◌≡◌, ◌++◌, ◌∷◌, ℕ, [], List, None, true, IfOk, OnOk, is_none, is_ok};
+ghost use Rattle.std.specs.Prelude.{◌≡◌, ◌++◌, ◌∷◌, ℕ, [], List, None, true, IfOk, OnOk, is_none, is_ok, map};
 ghost use Rattle.record_judge.specs.Judging.{Judges};
 ghost use Rattle.record_reads.specs.Events.{event_of as row_of};
 ghost use Rattle.record_tables.specs.Events.{Event as Row};
@@ -80,6 +80,17 @@ impl Watch {
         self.fault = Some(row.number);
         self.tell(rt, &words);
         Ok(false)
+    }
+
+    /// The same of the events of a page.
+    pub fn look_at_page(&mut self, rt: &HostRuntime, page: &[EventRow]) -> Result<(), AllocError>
+        ensures { (rows : List Row) → Watches self.old rows
+            → OnOk result (Watches self.new (rows ++ map row_of page.now)) }
+    {
+        for row in page {
+            self.look_at(rt, row)?;
+        }
+        Ok(())
     }
 
     /// Whether nothing stands against the events that were judged.
