@@ -17,6 +17,7 @@ pub mod CaptureLemmas
 pub mod JudgementLemmas
 pub mod LawfulLemmas
 mod LawfulRows
+pub mod ExtractLaws
 pub mod MarkLemmas
 pub mod OpeningLemmas
 pub mod MissingLemmas

@@ -5,8 +5,11 @@ use Rattle.record_history.specs.Events.{Event}
 use Rattle.record_history.specs.Lines.{lines_from}
 use Rattle.record_history.specs.Replay.{replay}
 use Rattle.record_judge.specs.Judging.{AreTrueFrom, Judges}
+use Rattle.record_noted.specs.Histories.{rows_of}
+use Rattle.record_store.specs.declared.store.Store.{Store}
 use Rattle.record_tables.specs.Events.{Event as Row}
-use Rattle.cli_history.specs.Walks.{GoesOn, rows_left}
+use Rattle.sqlite.specs.Store.{Ghosts}
+use Rattle.cli_history.specs.Walks.{GoesOn, KeepsLinesIn, rows_left}
 use Rattle.cli_history.specs.declared.extracts.Extract.{Extract}
 use Rattle.cli_history.specs.declared.watching.Watch.{Watch}
 
@@ -38,3 +41,11 @@ pub record IsStill (old new : Extract) : Type 0 where
 pub record IsFirst (x : Extract) : Type 0 where
   pub from : x.events.from ≡ Some 1
   pub judged : Watches x.watch []
+
+-- unless something stands against an event, all of a history was judged
+abbrev pub HasJudged : Extract → List (List ℕ) → Type 0
+HasJudged x ls = Watches x.watch (rows_of ls)
+
+-- THE HISTORY OF A STORE IS LAWFUL, if it keeps one
+abbrev pub IsLawfulIn : {S : Type 0} → Ghosts S → Store S → Type 0
+IsLawfulIn g store = (ls : List (List ℕ)) → KeepsLinesIn g store ls → IsLawful ls

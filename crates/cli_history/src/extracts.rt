@@ -1,11 +1,11 @@
 //! The events of records that are taken out of a store, each with the marks by which it is checked.
 
-ghost use Rattle.std.specs.Prelude.{◌≡◌, ◌&&◌, ℕ, List, true, IfOk, IfSome, OnOk, is_none, is_ok, not};
+ghost use Rattle.std.specs.Prelude.{◌≡◌, ◌&&◌, ℕ, List, true, IfOk, IfSome, OnOk, is_none, is_ok, is_some, not};
 ghost use Rattle.sqlite.specs.State.{HasCleanDisk};
 ghost use Rattle.sqlite.specs.Held.{state};
 ghost use Rattle.record_noted.specs.Histories.{rows_of};
 ghost use Rattle.cli_history.specs.Lawful.{IsFirst, IsStill, JudgesNext};
-ghost use Rattle.cli_history.specs.Walks.{Glances, HasLines};
+ghost use Rattle.cli_history.specs.Walks.{Glances, HasLines, KeepsLinesIn};
 
 use crate::chosen::records_of;
 use crate::pages::{Events, event_of};
@@ -104,7 +104,9 @@ impl<'s> Extract<'s> {
         volume: Option<u32>,
         subjects: &'s Subjects,
     ) -> Result<Option<Extract<'s>>, AllocError>
-        ensures { IfOk result (λ x. IfSome x IsFirst) }
+        ensures first { IfOk result (λ x. IfSome x IsFirst) }
+        ensures there { (ls : List (List ℕ)) → KeepsLinesIn S.Store archive.now ls →
+            IfOk result (λ x. is_some x ≡ true) }
     {
         match archive.event_layout() {
             EventLayout::Present => Ok(Some(Extract {

@@ -15,3 +15,4 @@ pub mod VolumeExports
 pub mod VolumeLists
 pub mod VolumeReports
 pub mod VolumeTwice
+pub mod Histories

@@ -1,14 +1,20 @@
 //! `export`: records as files, with lists of them.
 
-ghost use Rattle.std.specs.Prelude.{◌≡◌, [], IfOk, MatchOption, OnOk};
+ghost use Rattle.std.specs.Prelude.{◌≡◌, ◌&&◌, [], ℕ, List, true, IfOk, MatchOption, OnOk, is_ok};
+ghost use Rattle.sqlite.specs.State.{HasCleanDisk};
+ghost use Rattle.sqlite.specs.Held.{state};
+ghost use Rattle.record_archive.specs.Archive.{Archive};
+ghost use Rattle.record_store.specs.Stores.{StandsFor};
 ghost use Rattle.record_choice.specs.Reads.{OnlyReads};
 ghost use Rattle.cli_console.specs.Failures.{IsToldAs};
 ghost use Rattle.cli_console.specs.Finds.{found_in};
 ghost use Rattle.cli_console.specs.declared.failure.Status.TheVariants.{BadData};
-ghost use Rattle.cli_history.specs.Walks.{Glances};
+ghost use Rattle.cli_history.specs.Lawful.{HasJudged, IsFirst, IsLawful};
+ghost use Rattle.cli_history.specs.Walks.{Glances, HasLines, KeepsLinesIn};
 ghost use Rattle.cli_readings.specs.Chosen.{ExportsOf, OnlyReadsStore};
 ghost use Rattle.cli_readings.specs.Ends.{IsEnded};
 ghost use Rattle.cli_readings.specs.Exports.{ExportsFound, exported_text};
+ghost use Rattle.cli_readings.specs.Histories.{ExportsLawful, IsFileOf};
 ghost use Rattle.cli_choice.specs.Reads.{IsReadOf};
 
 use crate::conditions::conditions_of;
@@ -77,13 +83,17 @@ fn write_events<S: Alter>(
     name: &str,
     extract: &mut Extract<'_>,
 ) -> Result<[u8; 32], Failure>
-    ensures { Glances S.Store archive.old archive.new }
+    ensures glances { Glances S.Store archive.old archive.new }
+    ensures judged { HasCleanDisk (state S.Store archive.new.conn) → (a : Archive)
+        → (ls : List (List ℕ)) → StandsFor S.Store archive.old a
+        → HasLines S.Store archive.old ls → IsFirst extract.old
+        → OnOk result (HasJudged extract.new ls) }
 {
     let mut file = make_file(rt, folder, name)?;
     let mut hasher = Sha256::new();
     for _ in 0..u64::MAX {
         let Some(lines) = extract.next_lines(rt, archive)? else {
-            break;
+            return Ok(hasher.finalize());
         };
         write_to(rt, folder, &mut file, lines.as_slice())?;
         hasher.update(lines.as_slice());
@@ -108,7 +118,10 @@ fn write_history<S: Alter>(
     name: &str,
     noted: &Noted,
 ) -> Result<Option<HistoryFile>, Failure>
-    ensures { Glances S.Store archive.old archive.new }
+    ensures glances { Glances S.Store archive.old archive.new }
+    ensures lawful { HasCleanDisk (state S.Store archive.new.conn) → (a : Archive)
+        → (ls : List (List ℕ)) → StandsFor S.Store archive.old a
+        → KeepsLinesIn S.Store archive.old ls → IfOk result (λ file. IsFileOf file ls) }
 {
     let extract = Extract::of(rt.alloc(), archive, noted.volume, &noted.subjects)?;
     let Some(extract) = extract else {
@@ -128,7 +141,11 @@ pub(crate) fn export_history<S: Alter>(
     archive: &mut Store<S>,
     folder: &mut Folder<'_>,
 ) -> Result<Result<(), Failure>, Failure>
-    ensures { Glances S.Store archive.old archive.new }
+    ensures glances { Glances S.Store archive.old archive.new }
+    ensures lawful { HasCleanDisk (state S.Store archive.new.conn) → (a : Archive)
+        → (ls : List (List ℕ)) → StandsFor S.Store archive.old a
+        → KeepsLinesIn S.Store archive.old ls
+        → IfOk result (λ told. is_ok told ≡ true → IsLawful ls) }
 {
     let volume = folder.noted.volume;
     let name = history_name(rt.alloc(), volume)?;
@@ -214,6 +231,16 @@ fn exported_line(alloc: Global, count: Count, folder: &str) -> Result<Shown, All
     Ok(line)
 }
 
+/// What two things come to: the first failure, or that both are done.
+fn first_failure(one: Result<(), Failure>, other: Result<(), Failure>) -> Result<(), Failure>
+    ensures { is_ok result ≡ is_ok one && is_ok other }
+{
+    match one {
+        Ok(()) => other,
+        Err(failure) => Err(failure),
+    }
+}
+
 /// Exports the records that meet a choice, and whose messages have what is asked of them, to a folder in which none of the
 /// files is yet, and writes how much that is. The index is written after the messages, with the file of the store and what
 /// was asked for: where it is missing, the export was cut off. `BadData` where the class is none of the plan, and where a
@@ -230,6 +257,7 @@ pub fn export_to<S: Alter>(
     ensures reads { OnOk result (OnlyReadsStore S.Store archive.old archive.new) }
     ensures exported { OnOk result (ExportsOf S.Store target.entry.folder.now choice.now
         questions.now archive.old archive.new.conn) }
+    ensures lawful { OnOk result (ExportsLawful S.Store archive.old archive.new.conn) }
 {
     let seals = Seals::of(rt, archive)?;
     let folder = Folder::new(rt, target.folder, None);
@@ -240,10 +268,8 @@ pub fn export_to<S: Alter>(
     };
     let ended = search.end(rt, archive);
     out.destination.noted.altered.tell_in(rt, None)?;
-    let judged = match export_history(rt, archive, &mut out.destination)? {
-        Ok(()) => out.destination.noted.altered.end(),
-        Err(failure) => Err(failure),
-    };
+    let told = export_history(rt, archive, &mut out.destination)?;
+    let judged = first_failure(told, out.destination.noted.altered.end());
     let conditions = conditions_of(rt.alloc(), choice)?;
     finish(rt, out, file, conditions.as_deref(), target)?;
     ended?;
