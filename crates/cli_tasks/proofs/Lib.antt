@@ -1,5 +1,6 @@
 pub mod DoneLemmas
 pub mod CopyLemmas
+pub mod CaptureLaws
 pub mod ChangeLemmas
 pub mod ReadingLaws
 pub mod VolumeLaws

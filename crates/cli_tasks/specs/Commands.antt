@@ -34,6 +34,7 @@ use Rattle.cli_changes.specs.Approvals.{IsAsTyped}
 use Rattle.cli_readings.specs.Chosen.{ExportsOf, ListsOf, ReportsOf, ShowsOf, TwiceOf}
 use Rattle.cli_tasks.specs.Changes.{Changes, ChangesChosen, ChangesHold, Disposes, EndsHold, Makes, Refiles, ReplacesBy}
 use Rattle.cli_tasks.specs.Copies.{CopiesTo}
+use Rattle.cli_tasks.specs.Deliveries.{DeliversTo}
 use Rattle.cli_tasks.specs.Purposes.{for_chosen, for_disposal, for_hold, for_plan, purpose_of}
 use Rattle.cli_tasks.specs.Works.{IsDone, IsLent}
 use Rattle.cli_tasks.specs.declared.changes.ChosenChange.{ChosenChange}
@@ -150,9 +151,9 @@ abbrev pub ShowsAsTyped : {S : Type 0} → Ghosts S → (WasThere : Store S → 
 ShowsAsTyped g WasThere typed = (typed.volume ≡ None) × Shows g WasThere typed.number
 
 module _ {S : Type 0} (g : Ghosts S) (IsAt : (path : List ℕ) → Store S → Type 0) (path : List ℕ) (told : Attribution) where
-  -- WHAT A COMMAND LINE MAKES of the archive at its path, where it changes records, holds or the plan, copies it, or reads the records of a
-  -- choice, a message, or what was captured twice. Where it reads something else of an archive, or sets something in its history, it is the one
-  -- at its path. Nothing is said here of the others.
+  -- WHAT A COMMAND LINE MAKES of the archive at its path, where it captures a message, changes records, holds or the plan, copies it, or reads
+  -- the records of a choice, a message, or what was captured twice. Where it reads something else of an archive, or sets something in its
+  -- history, it is the one at its path. Nothing is said here of the others.
   abbrev pub Does : Command → Type 0
   Does (command.Chosen typed chosen) = DoesAsTyped g (IsAt path) told typed chosen
   Does (command.ReleaseAll name is_agreed) = IsDone (IsAt path) (λ before after.
@@ -171,4 +172,5 @@ module _ {S : Type 0} (g : Ghosts S) (IsAt : (path : List ℕ) → Store S → T
   Does (command.SetTitles titles) = IsLent (IsAt path)
   Does (command.History chosen) = IsLent (IsAt path)
   Does (command.Certificates numbers) = IsLent (IsAt path)
+  Does (command.Deliver filing is_as_is) = DeliversTo g IsAt path (IsTold told) filing is_as_is
   Does c = Unit {0}

@@ -5,6 +5,7 @@ pub mod Places
 pub mod Purposes
 pub mod Changes
 pub mod Captured
+pub mod Deliveries
 pub mod Commands
 pub mod Plans
 pub mod Releases

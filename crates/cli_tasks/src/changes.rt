@@ -12,6 +12,7 @@ ghost use Rattle.cli_history.specs.declared.opening.Purpose.{Purpose};
 ghost use Rattle.cli_history.specs.declared.seals.Seals.{Seals};
 ghost use Rattle.cli_tasks.specs.Changes.{Changes, ChangesChosen, Disposes, Makes};
 ghost use Rattle.cli_tasks.specs.Commands.{IsTold};
+ghost use Rattle.cli_tasks.specs.Deliveries.{Delivers};
 ghost use Rattle.cli_tasks.specs.Purposes.{for_disposal, for_hold, for_plan, purpose_of};
 
 use crate::archives::{Archives, Work};
@@ -316,6 +317,10 @@ impl<A: Drop> Drop for DeliverOne<'_, '_, A> {
 
 impl<A: Archives> Work for DeliverOne<'_, '_, A> {
     type Answer = Result<Delivered, Failure>;
+
+    ghost does = { λ S g it before done after. IfOk done (λ told. IfOk told (λ d.
+        Delivers A.Kept.Store (A.is_at it.earlier.archives.now) g it.earlier.volumes.folder.now
+        it.earlier.volumes.last it.author it.rules it.timing it.message before d after)) };
 
     fn work<S: Alter>(
         self,

@@ -1,8 +1,11 @@
 //! What each subcommand does.
 
-ghost use Rattle.std.specs.Prelude.{IfOk, OnOk};
+ghost use Rattle.std.specs.Prelude.{◌≡◌, false, None, IfOk, OnOk};
+ghost use Rattle.cli_changes.specs.Deliveries.{no_mail_in};
 ghost use Rattle.cli_readings.specs.Chosen.{ShowsOf};
-ghost use Rattle.cli_tasks.specs.Commands.{ChangesBy, ChangesChosenBy, DisposesAsTyped, Does, DoesAsTyped, DoesWith, ReadsBy, ReadsChosen, ReplacesPlan, Shows, ShowsAsTyped, Surveys};
+ghost use Rattle.cli_tasks.specs.Commands.{ChangesBy, ChangesChosenBy, DisposesAsTyped, Does, DoesAsTyped, DoesWith, IsTold, ReadsBy, ReadsChosen, ReplacesPlan, Shows, ShowsAsTyped, Surveys};
+ghost use Rattle.cli_tasks.specs.Deliveries.{Delivers, DeliversTo};
+ghost use Rattle.cli_tasks.specs.Places.{IsIn};
 ghost use Rattle.cli_tasks.specs.Volumes.{DoesThere};
 ghost use Rattle.cli_tasks.specs.Works.{IsDone, IsLent};
 
@@ -24,8 +27,9 @@ use crate::volumes::{execute_over, is_over_volumes};
 use choice_words::TypedChoice;
 use class_plan::Date;
 use cli_changes::{
-    FilingRules, Intake, Round, Rounds, Timing, check_rules, day_of_disposal, logged, read_message,
-    read_plan, refuse_no_mail, report_delivery, undecoded_in, with_approved, write_plan,
+    Delivered, FilingRules, Intake, Round, Rounds, Timing, check_rules, day_of_disposal, logged,
+    read_message, read_plan, refuse_no_mail, report_delivery, undecoded_in, with_approved,
+    write_plan,
 };
 use cli_choice::{Change, Questions};
 use cli_console::{Failure, StandardOutput, day_or_today};
@@ -38,8 +42,10 @@ use command_lines::archives::{
     Attribution, Choice, ChosenTask, Command, CommandLine, DisposalAsked, Filing, HistoryTask,
     Listing, RulesChecked, Target, Telling, TypedNumber, Why,
 };
+use desk_commands::Payload;
 use record_store::Store;
 use sqlite::{Alter, Connection};
+use std::alloc::Global;
 
 /// What is read of a whole archive.
 #[derive(Drop)]
@@ -203,6 +209,51 @@ impl Work for CheckRules<'_> {
     }
 }
 
+/// Finds that a message looks like one, unless it is to be captured as it is. Else `BadData`.
+fn judge_mail(alloc: Global, message: &Payload, is_as_is: bool) -> Result<(), Failure>
+    ensures { OnOk result (is_as_is ≡ false → no_mail_in message.now ≡ None) }
+{
+    if is_as_is {
+        return Ok(());
+    }
+    refuse_no_mail(alloc, message)
+}
+
+/// Delivers a message to the store at a path. A store that cannot be had is a reason to try again.
+fn deliver_at<A: Archives>(
+    rt: &HostRuntime,
+    archives: &A,
+    path: &str,
+    work: DeliverOne<'_, '_, A>,
+) -> Result<Delivered, Failure>
+    ensures { IfOk result (λ d. IsDone (A.is_at archives.now path.now) (λ before after.
+        Delivers A.Kept.Store (A.is_at work.entry.earlier.archives.now) A.Kept.Store
+        work.entry.earlier.volumes.folder.now work.entry.earlier.volumes.last work.entry.author
+        work.entry.rules work.entry.timing work.entry.message before d after)) }
+{
+    let (done, closed) = match archives.lend(rt, path, work) {
+        Ok(lent) => lent,
+        Err(failure) => return Err(failure.kept()),
+    };
+    settled(rt, path, done, closed)?
+}
+
+/// Where a message is captured. An archive that cannot be had is a reason to try again.
+fn place_for_delivery<A: Archives>(
+    rt: &HostRuntime,
+    archives: &A,
+    store: &str,
+    told: &Attribution<'_>,
+    timing: Timing,
+) -> Result<Capturing, Failure>
+    ensures { IfOk result (IsIn store.now) }
+{
+    match place_for_capture(rt, archives, store, told, timing) {
+        Ok(place) => Ok(place),
+        Err(failure) => Err(failure.kept()),
+    }
+}
+
 /// Captures the message on standard input. What looks like no message is refused, unless it is to be captured as it is. A store
 /// that cannot be had, or that may not keep the message, is a reason to try again, so that a mail server keeps it. In an archive of
 /// volumes it goes into the last one, or into a next one where that is over its size.
@@ -213,21 +264,19 @@ fn deliver<'a, A: Archives>(
     filing: &Filing<'a>,
     is_as_is: bool,
     told: &Attribution<'a>,
-) -> Result<(), Failure> {
+) -> Result<(), Failure>
+    ensures { OnOk result (DeliversTo A.Kept.Store (A.is_at archives.now) store.now
+        (IsTold told.now) filing.now is_as_is) }
+{
     let timing = Timing::new(rt, filing.moment)?;
     let message = read_message(rt)?;
-    if !is_as_is {
-        refuse_no_mail(rt.alloc(), &message)?;
-    }
+    judge_mail(rt.alloc(), &message, is_as_is)?;
     let undecoded = undecoded_in(rt.alloc(), &message);
     let rules = FilingRules::read_for_delivery(rt, filing)?;
     rules.tell_unused(rt);
-    let Capturing { path, volume } = match place_for_capture(rt, archives, store, told, timing) {
-        Ok(place) => place,
-        Err(failure) => return Err(failure.kept()),
-    };
+    let capturing = place_for_delivery(rt, archives, store, told, timing)?;
+    let volume = capturing.volume;
     let author = Author::or_program(rt, told)?;
-    let path = path.as_str();
     let work = DeliverOne {
         author: author.in_volume(volume),
         rules,
@@ -235,11 +284,7 @@ fn deliver<'a, A: Archives>(
         message,
         earlier: Earlier::of(archives, store, volume),
     };
-    let (done, closed) = match archives.lend(rt, path, work) {
-        Ok(lent) => lent,
-        Err(failure) => return Err(failure.kept()),
-    };
-    let delivery = settled(rt, path, done, closed)??;
+    let delivery = deliver_at(rt, archives, capturing.path.as_str(), work)?;
     report_delivery(rt, volume, &delivery, filing.limit, undecoded.as_slice())
 }
 

@@ -55,6 +55,7 @@ impl<'a, A: Archives> Earlier<'a, A> {
     pub fn of(archives: &'a A, folder: &'a str, volume: Option<u32>) -> Earlier<'a, A>
         ensures folder { result.volumes.folder.now ≡ folder.now }
         ensures last { result.volumes.last ≡ volumes_before volume }
+        ensures archives { result.archives.now ≡ archives.now }
     {
         Earlier {
             archives,
