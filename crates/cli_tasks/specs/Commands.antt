@@ -36,6 +36,7 @@ use Rattle.cli_tasks.specs.Changes.{Changes, ChangesChosen, ChangesHold, Dispose
 use Rattle.cli_tasks.specs.Copies.{CopiesTo}
 use Rattle.cli_tasks.specs.Deliveries.{DeliversTo}
 use Rattle.cli_tasks.specs.Purposes.{for_chosen, for_disposal, for_hold, for_plan, purpose_of}
+use Rattle.cli_tasks.specs.Rounds.{IntakesAll}
 use Rattle.cli_tasks.specs.Works.{IsDone, IsLent}
 use Rattle.cli_tasks.specs.declared.changes.ChosenChange.{ChosenChange}
 use Rattle.cli_tasks.specs.declared.changes.Changing.{Changing}
@@ -173,4 +174,5 @@ module _ {S : Type 0} (g : Ghosts S) (IsAt : (path : List ℕ) → Store S → T
   Does (command.History chosen) = IsLent (IsAt path)
   Does (command.Certificates numbers) = IsLent (IsAt path)
   Does (command.Deliver filing is_as_is) = DeliversTo g IsAt path (IsTold told) filing is_as_is
+  Does (command.Intake maildir filing telling) = IntakesAll g IsAt path (IsTold told)
   Does c = Unit {0}

@@ -6,6 +6,7 @@ pub mod Purposes
 pub mod Changes
 pub mod Captured
 pub mod Deliveries
+pub mod Rounds
 pub mod Commands
 pub mod Plans
 pub mod Releases

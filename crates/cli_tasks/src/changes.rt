@@ -14,6 +14,7 @@ ghost use Rattle.cli_tasks.specs.Changes.{Changes, ChangesChosen, Disposes, Make
 ghost use Rattle.cli_tasks.specs.Commands.{IsTold};
 ghost use Rattle.cli_tasks.specs.Deliveries.{Delivers};
 ghost use Rattle.cli_tasks.specs.Purposes.{for_disposal, for_hold, for_plan, purpose_of};
+ghost use Rattle.cli_tasks.specs.Rounds.{TakesIn};
 
 use crate::archives::{Archives, Work};
 use crate::volume_days::Earlier;
@@ -378,6 +379,10 @@ impl<A: Drop> Drop for TakeNew<'_, '_, A> {
 
 impl<'a, A: Archives> Work for TakeNew<'a, '_, A> {
     type Answer = Round<Intake<'a>, Rounds>;
+
+    ghost does = { λ S g it before done after. IfOk done (λ round.
+        TakesIn A.Kept.Store (A.is_at it.earlier.archives.now) g it.earlier.volumes.folder.now
+        it.earlier.volumes.last it.author it.job it.rounds it.place before round after) };
 
     fn work<S: Alter>(
         self,

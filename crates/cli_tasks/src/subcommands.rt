@@ -6,6 +6,7 @@ ghost use Rattle.cli_readings.specs.Chosen.{ShowsOf};
 ghost use Rattle.cli_tasks.specs.Commands.{ChangesBy, ChangesChosenBy, DisposesAsTyped, Does, DoesAsTyped, DoesWith, IsTold, ReadsBy, ReadsChosen, ReplacesPlan, Shows, ShowsAsTyped, Surveys};
 ghost use Rattle.cli_tasks.specs.Deliveries.{Delivers, DeliversTo};
 ghost use Rattle.cli_tasks.specs.Places.{IsIn};
+ghost use Rattle.cli_tasks.specs.Rounds.{IntakesAll, IntakesRound};
 ghost use Rattle.cli_tasks.specs.Volumes.{DoesThere};
 ghost use Rattle.cli_tasks.specs.Works.{IsDone, IsLent};
 
@@ -296,7 +297,10 @@ fn take_round<'a, A: Archives>(
     job: Intake<'a>,
     rounds: Rounds,
     told: &Attribution<'a>,
-) -> Result<Round<Intake<'a>, Rounds>, Failure> {
+) -> Result<Round<Intake<'a>, Rounds>, Failure>
+    ensures { IfOk result (IntakesRound A.Kept.Store (A.is_at archives.now) store.now
+        (IsTold told.now) job.entry rounds) }
+{
     let capturing = place_for_intake(rt, archives, store, told, &job)?;
     let place = capturing.place(rt, store)?;
     let author = Author::or_program(rt, told)?;
@@ -319,7 +323,10 @@ fn take_from<'a, A: Archives>(
     filing: &Filing<'a>,
     telling: Telling,
     told: &Attribution<'a>,
-) -> Result<(), Failure> {
+) -> Result<(), Failure>
+    ensures { OnOk result (IntakesAll A.Kept.Store (A.is_at archives.now) store.now
+        (IsTold told.now)) }
+{
     let mut job = Intake::read(rt, maildir, filing, telling)?;
     let mut rounds = Rounds::none(rt.alloc());
     for _ in 0..u64::MAX {
@@ -343,7 +350,10 @@ fn intake<'a, A: Archives>(
     filing: &Filing<'a>,
     telling: Telling,
     told: &Attribution<'a>,
-) -> Result<(), Failure> {
+) -> Result<(), Failure>
+    ensures { OnOk result (IntakesAll A.Kept.Store (A.is_at archives.now) store.now
+        (IsTold told.now)) }
+{
     match take_from(rt, archives, store, maildir, filing, telling, told) {
         Ok(()) => Ok(()),
         Err(failure) => Err(logged(rt, telling.has_times, failure)),
