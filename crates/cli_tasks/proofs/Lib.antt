@@ -2,6 +2,7 @@ pub mod DoneLemmas
 pub mod CopyLemmas
 pub mod CaptureLaws
 pub mod RoundLaws
+pub mod ImportLaws
 pub mod ChangeLemmas
 pub mod ReadingLaws
 pub mod VolumeLaws

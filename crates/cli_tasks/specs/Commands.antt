@@ -35,6 +35,7 @@ use Rattle.cli_readings.specs.Chosen.{ExportsOf, ListsOf, ReportsOf, ShowsOf, Tw
 use Rattle.cli_tasks.specs.Changes.{Changes, ChangesChosen, ChangesHold, Disposes, EndsHold, Makes, Refiles, ReplacesBy}
 use Rattle.cli_tasks.specs.Copies.{CopiesTo}
 use Rattle.cli_tasks.specs.Deliveries.{DeliversTo}
+use Rattle.cli_tasks.specs.Imports.{ImportsAll}
 use Rattle.cli_tasks.specs.Purposes.{for_chosen, for_disposal, for_hold, for_plan, purpose_of}
 use Rattle.cli_tasks.specs.Rounds.{IntakesAll}
 use Rattle.cli_tasks.specs.Works.{IsDone, IsLent}
@@ -175,4 +176,5 @@ module _ {S : Type 0} (g : Ghosts S) (IsAt : (path : List ℕ) → Store S → T
   Does (command.Certificates numbers) = IsLent (IsAt path)
   Does (command.Deliver filing is_as_is) = DeliversTo g IsAt path (IsTold told) filing is_as_is
   Does (command.Intake maildir filing telling) = IntakesAll g IsAt path (IsTold told)
+  Does (command.Import asked) = ImportsAll g IsAt path (IsTold told)
   Does c = Unit {0}

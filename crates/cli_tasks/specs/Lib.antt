@@ -7,6 +7,7 @@ pub mod Changes
 pub mod Captured
 pub mod Deliveries
 pub mod Rounds
+pub mod Imports
 pub mod Commands
 pub mod Plans
 pub mod Releases

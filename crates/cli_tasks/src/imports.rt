@@ -1,7 +1,9 @@
 //! Old mail that is captured.
 
-ghost use Rattle.std.specs.Prelude.{◌-◌, IfOk};
+ghost use Rattle.std.specs.Prelude.{◌-◌, string_bytes, IfOk, OnOk};
 ghost use Rattle.cli_tasks.specs.Captured.{KnowsVolumes, ShowsCaptured};
+ghost use Rattle.cli_tasks.specs.Commands.{IsTold};
+ghost use Rattle.cli_tasks.specs.Imports.{ImportsAll, ImportsIn, ImportsRound, KnowsBefore, Prepares};
 
 use crate::archives::{Archives, Work, lend};
 use crate::changes::filing_of;
@@ -73,6 +75,23 @@ fn know_volumes<A: Archives>(
     Ok(rounds)
 }
 
+/// The rules of an import, once it is noted what is captured by them already in a store, or in a volume.
+fn prepared<S: Alter>(
+    rt: &HostRuntime,
+    archive: &mut Store<S>,
+    job: &MailImport<'_>,
+    rounds: &mut ImportRounds,
+    volume: Option<u32>,
+) -> Result<NamedRules, Failure>
+    ensures { IfOk result (λ named. Prepares S.Store (string_bytes named.officer) volume
+        archive.old archive.new rounds.old rounds.new) }
+{
+    let named = named_rules(rt, job)?;
+    let known = captured_for(rt, archive, named.officer.as_str())?;
+    rounds.know(volume, known)?;
+    Ok(named)
+}
+
 /// Captures old mail, in a volume until it is full.
 #[derive(Drop)]
 struct ImportOld<'a> {
@@ -82,22 +101,11 @@ struct ImportOld<'a> {
     place: Place,
 }
 
-impl ImportOld<'_> {
-    /// The rules, once it is noted what is captured by them already.
-    fn prepared<S: Alter>(
-        &mut self,
-        rt: &HostRuntime,
-        archive: &mut Store<S>,
-    ) -> Result<NamedRules, Failure> {
-        let named = named_rules(rt, &self.job)?;
-        let known = captured_for(rt, archive, named.officer.as_str())?;
-        self.rounds.know(self.place.volume, known)?;
-        Ok(named)
-    }
-}
-
 impl<'a> Work for ImportOld<'a> {
     type Answer = Round<MailImport<'a>, ImportRounds>;
+
+    ghost does = { λ S g it before done after. IfOk done
+        (λ round. ImportsIn g it.author it.job it.rounds it.place before round after) };
 
     fn work<S: Alter>(
         self,
@@ -107,21 +115,21 @@ impl<'a> Work for ImportOld<'a> {
         Connection<S>,
         Result<Round<MailImport<'a>, ImportRounds>, Failure>,
     ) {
-        let mut import = self;
-        let mut archive = archive;
-        let named = match import.prepared(rt, &mut archive) {
-            Ok(named) => Some(named),
-            Err(failure) => {
-                let failure = failure.in_volume(rt.alloc(), import.place.volume);
-                return (archive.into_connection(), Err(failure));
-            }
-        };
         let ImportOld {
             author,
             job,
             rounds,
             place,
-        } = import;
+        } = self;
+        let mut archive = archive;
+        let mut rounds = rounds;
+        let named = match prepared(rt, &mut archive, &job, &mut rounds, place.volume) {
+            Ok(named) => Some(named),
+            Err(failure) => {
+                let failure = failure.in_volume(rt.alloc(), place.volume);
+                return (archive.into_connection(), Err(failure));
+            }
+        };
         let filing = filing_of(&named);
         let ledger = match open_ledger(rt, archive, &author, filing, Purpose::Capturing) {
             Ok(ledger) => ledger,
@@ -144,7 +152,10 @@ fn know_before<A: Archives>(
     from: u32,
     volume: Option<u32>,
     rounds: ImportRounds,
-) -> Result<ImportRounds, Failure> {
+) -> Result<ImportRounds, Failure>
+    ensures { IfOk result (KnowsBefore A.Kept.Store (A.is_at archives.now) store.now from volume
+        rounds) }
+{
     match volume {
         Some(volume) => {
             let named = named_rules(rt, job)?;
@@ -155,6 +166,35 @@ fn know_before<A: Archives>(
     }
 }
 
+/// Captures old mail in a round: in a store, or in a volume of an archive until that is full, once it is noted what the volumes from this one
+/// on up to that one have already. Answers beside it which volume that is.
+fn import_round<'a, A: Archives>(
+    rt: &HostRuntime,
+    archives: &A,
+    store: &str,
+    job: MailImport<'a>,
+    rounds: ImportRounds,
+    from: u32,
+    is_first: bool,
+    told: &Attribution<'a>,
+) -> Result<(Round<MailImport<'a>, ImportRounds>, Option<u32>), Failure>
+    ensures { IfOk result (λ made. ImportsRound A.Kept.Store (A.is_at archives.now) store.now
+        (IsTold told.now) job.entry rounds made.0) }
+{
+    let timing = job.timing();
+    let (capturing, place) = place_for_import(rt, archives, store, told, timing, is_first)?;
+    let known = know_before(rt, archives, store, &job, from, place.volume, rounds)?;
+    let author = Author::or_program(rt, told)?;
+    let work = ImportOld {
+        author: author.in_volume(place.volume),
+        job,
+        rounds: known,
+        place,
+    };
+    let round = lend(rt, archives, capturing.path.as_str(), work)?;
+    Ok((round, place.volume))
+}
+
 /// Captures old mail in a store that keeps a history, or in one volume after another of an archive whose volumes do.
 pub fn import<'a, A: Archives>(
     rt: &'a HostRuntime,
@@ -162,28 +202,22 @@ pub fn import<'a, A: Archives>(
     store: &str,
     asked: &Import<'a>,
     told: &Attribution<'a>,
-) -> Result<(), Failure> {
+) -> Result<(), Failure>
+    ensures { OnOk result (ImportsAll A.Kept.Store (A.is_at archives.now) store.now
+        (IsTold told.now)) }
+{
     let mut job = MailImport::read(rt, asked)?;
     let mut rounds = ImportRounds::none(rt.alloc());
     let mut from = 1;
     for round in 0..u64::MAX {
         let is_first = round == 0;
-        let timing = job.timing();
-        let (capturing, place) = place_for_import(rt, archives, store, told, timing, is_first)?;
-        let known = know_before(rt, archives, store, &job, from, place.volume, rounds)?;
-        let author = Author::or_program(rt, told)?.in_volume(place.volume);
-        let work = ImportOld {
-            author,
-            job,
-            rounds: known,
-            place,
-        };
-        match lend(rt, archives, capturing.path.as_str(), work)? {
+        let (made, volume) = import_round(rt, archives, store, job, rounds, from, is_first, told)?;
+        match made {
             Round::Done => return Ok(()),
             Round::NextVolume(rest, so_far) => {
                 job = rest;
                 rounds = so_far;
-                from = place.volume.unwrap_or(from);
+                from = volume.unwrap_or(from);
             }
         }
     }
