@@ -1,20 +1,23 @@
 -- A change of an archive by an author, from what its calls say.
 use Rattle.std.specs.Prelude.{Bool, Option, None, Result, Ok, Err, OnOk, List, true, false}
 use Rattle.std.specs.Option.{unwrap_or}
-use Rattle.std.proofs.Common.{◌≡◌, ◌∙◌, ap, subst}
+use Rattle.std.proofs.Common.{◌≡◌, ◌∙◌, ℕ, ap, subst}
 use Rattle.std.specs.declared.prelude.LibcRuntime.{LibcRuntime}
 use Rattle.jiff.specs.Words.{epoch_day}
 use Rattle.jiff_core.specs.declared.civil.date.Date.{Date}
 use Rattle.sqlite.specs.Store.{Ghosts}
 use Rattle.sqlite.specs.Held.{Held}
 use Rattle.record_archive.specs.Archive.{Archive}
-use Rattle.record_choice.specs.Disposals.{Certificate}
+use Rattle.record_choice.specs.Disposals.{Certificate, HandsOver}
 use Rattle.record_ledger.specs.Ledgers.{KeptFor, store_of}
 use Rattle.record_ledger.specs.declared.ledger.Ledger.{Ledger}
 use Rattle.record_store.specs.declared.store.Store.{Store}
 use Rattle.cli_console.specs.declared.failure.Failure.{Failure}
 use Rattle.command_lines.specs.declared.archives.Disposal.{Disposal}
+use Rattle.cli_changes.specs.Certificates.{IsTaken}
 use Rattle.cli_changes.specs.Destructions.{IsDisposalOf, IsOnlyRead, IsRead}
+use Rattle.cli_changes.specs.declared.certificates.Certificates.{Certificates}
+use Rattle.cli_changes.specs.declared.certificates.StandardOutput.{StandardOutput}
 use Rattle.cli_history.specs.Authors.{IsOccasionOf}
 use Rattle.cli_history.specs.Openings.{OpensFor}
 use Rattle.cli_history.specs.Reasons.{changes}
@@ -76,14 +79,22 @@ changes_weaker g purpose author before Made Other after to d = record {
   left = d.left;
 }
 
--- WHAT IS DUE IS DISPOSED OF, by the seals of the certificates
-pub disposes : {S K : Type 0} (g : Ghosts S) (old new : Ledger S K) (is_done : Bool) (asked : Disposal) (day : Date)
-    (seals used : Seals) → used ≡ seals → (IsRead g new → IsRead g old) → (asked.destroys ≡ false → IsOnlyRead g old new)
-    → (asked.destroys ≡ true → (cs : List Certificate) × (IsRead g new → (a : Archive) → KeptFor g old.kept a
-    → IsDisposalOf used asked (KeptFor g new.kept) (epoch_day day) is_done cs a)) → Disposes g old new is_done asked day seals
-disposes g old new is_done asked day seals used same falls listed destroyed = record {
+-- WHAT IS DUE IS DISPOSED OF, by the seals of the certificates, which are for records of a volume
+pub disposes : {S K : Type 0} (g : Ghosts S) (old new : Ledger S K) (is_done : Bool) (asked : Disposal) (day : Date) (volume : Option ℕ)
+    (seals : Seals) (first last : Certificates StandardOutput) → first.volume ≡ volume → first.seals.now ≡ seals
+    → (IsRead g new → IsRead g old) → (asked.destroys ≡ false → IsOnlyRead g old new)
+    → (asked.destroys ≡ true → (cs : List Certificate) × HandsOver (IsTaken (λ (x y : StandardOutput) (line : List ℕ). Unit {0})) first cs last
+    × (IsRead g new → (a : Archive) → KeptFor g old.kept a
+    → IsDisposalOf first.seals.now asked (KeptFor g new.kept) (epoch_day day) is_done cs a))
+    → Disposes g old new is_done asked day volume seals
+disposes g old new is_done asked day volume seals first last of_volume same falls listed destroyed = record {
   falls = falls;
   listed = listed;
-  destroyed = λ yes. subst (λ s. (cs : List Certificate) × (IsRead g new → (a : Archive) → KeptFor g old.kept a
-      → IsDisposalOf s asked (KeptFor g new.kept) (epoch_day day) is_done cs a)) same (destroyed yes);
+  destroyed = λ yes.
+      let these = destroyed yes in (
+        these.0,
+        (first, last, of_volume, same, these.1),
+        subst (λ (s : Seals). IsRead g new → (a : Archive) → KeptFor g old.kept a
+            → IsDisposalOf s asked (KeptFor g new.kept) (epoch_day day) is_done these.0 a) same these.2,
+      );
 }

@@ -208,7 +208,7 @@ module _ {S : Type 0} (g : Ghosts S) (WasThere : Store S → Type 0) (told : Att
       (result : Result (Unit {0}) Failure) → IsTold told author → IsAsTyped asked typed → typed.of_volumes.items ≡ [] → d ≡ typed.alone
       → IfSome d.day (λ t. day ≡ t)
       → IfOk result (λ x. IsDone WasThere (λ before after. Changes g (for_disposal d.destroys) author before
-      (λ old new seals. Disposes g old new true d day seals) after))
+      (λ old new seals. Disposes g old new true d day None seals) after))
       → OnOk result (IsDone WasThere (λ before after. DisposesAsTyped g told before after asked))
   disposed_as author asked typed d day (Ok x) is typed_is none alone by done = record {
     before = done.before;
@@ -220,7 +220,7 @@ module _ {S : Type 0} (g : Ghosts S) (WasThere : Store S → Type 0) (told : Att
       typed_is,
       none,
       subst (λ (o : Option Date). IfSome o (λ t. day ≡ t)) (ap (λ (k : Disposal). k.day) alone ∙ typed_is.day) by,
-      subst (λ (k : Disposal). DisposesBy g told done.before done.after k day) alone (author, is, done.made),
+      subst (λ (k : Disposal). DisposesBy g told done.before done.after None k day) alone (author, is, done.made),
     );
   }
   disposed_as author asked typed d day (Err failure) is typed_is none alone by done = tt

@@ -1,5 +1,5 @@
 -- What a person changes in an archive.
-use Rattle.std.specs.Prelude.{◌≡◌, ℕ, Bool, true, false, List, length, None, Result, IfOk, OnOk, OnErr, is_ok}
+use Rattle.std.specs.Prelude.{◌≡◌, ℕ, Bool, true, false, List, length, Option, None, Result, IfOk, OnOk, OnErr, is_ok}
 use Rattle.std.specs.declared.prelude.LibcRuntime.{LibcRuntime}
 use Rattle.jiff.specs.Words.{epoch_day}
 use Rattle.jiff_core.specs.declared.civil.date.Date.{Date}
@@ -15,7 +15,7 @@ use Rattle.cli_console.specs.Finds.{found_in, numbers_of}
 use Rattle.cli_console.specs.declared.failure.Failure.{Failure}
 use Rattle.command_lines.specs.declared.archives.Disposal.{Disposal}
 use Rattle.record_archive.specs.Archive.{Archive}
-use Rattle.record_choice.specs.Disposals.{Certificate}
+use Rattle.record_choice.specs.Disposals.{Certificate, HandsOver}
 use Rattle.record_ledger.specs.Ledgers.{KeptFor, keeper_of, keeps_history, store_of}
 use Rattle.record_ledger.specs.declared.ledger.Ledger.{Ledger}
 use Rattle.record_noted.specs.Openings.{OpensHistory}
@@ -29,7 +29,10 @@ use Rattle.cli_history.specs.Walks.{Glances}
 use Rattle.cli_history.specs.declared.author.Author.{Author}
 use Rattle.cli_history.specs.declared.opening.Purpose.{Purpose}
 use Rattle.cli_history.specs.declared.seals.Seals.{Seals}
+use Rattle.cli_changes.specs.Certificates.{IsTaken}
 use Rattle.cli_changes.specs.Destructions.{IsDisposalOf, IsOnlyRead, IsRead, MayBegin}
+use Rattle.cli_changes.specs.declared.certificates.Certificates.{Certificates}
+use Rattle.cli_changes.specs.declared.certificates.StandardOutput.{StandardOutput}
 use Rattle.cli_changes.specs.declared.holds.HoldTally.{HoldTally}
 use Rattle.cli_changes.specs.Holdings.{HoldsAs, HoldsWell, changed_numbers, changed_on, held_by, is_any_of}
 use Rattle.cli_changes.specs.Moves.{RefilesListed, RefilesWell, moved_to, moving_numbers}
@@ -43,13 +46,19 @@ use Rattle.cli_tasks.specs.declared.changes.Changing.TheVariants.{ReplacePlan, D
 
 -- ---- in a ledger
 
+-- THESE CERTIFICATES ARE PRINTED on standard output, of which nothing else is claimed, each in one line, by these seals and in their order; each
+-- line names this volume, if there is one
+abbrev pub PrintsFor : (volume : Option ℕ) → Seals → List Certificate → Type 0
+PrintsFor volume seals cs = (first : Certificates StandardOutput) × (last : Certificates StandardOutput) × (first.volume ≡ volume)
+    × (first.seals.now ≡ seals) × HandsOver (IsTaken (λ (old new : StandardOutput) (line : List ℕ). Unit {0})) first cs last
+
 module _ {S K : Type 0} (g : Ghosts S) (old new : Ledger S K) (is_done : Bool) where
   -- WHAT IS DUE BY A DAY IS DISPOSED OF, by these seals: nothing is destroyed unless that is asked for, and then the records that are
-  -- meant, and no other
-  pub record Disposes (asked : Disposal) (day : Date) (seals : Seals) : Type 0 where
+  -- meant, and no other, each with a certificate that names this volume, if there is one
+  pub record Disposes (asked : Disposal) (day : Date) (volume : Option ℕ) (seals : Seals) : Type 0 where
     pub falls : IsRead g new → IsRead g old
     pub listed : asked.destroys ≡ false → IsOnlyRead g old new
-    pub destroyed : asked.destroys ≡ true → (cs : List Certificate) × (IsRead g new → (a : Archive) → KeptFor g old.kept a
+    pub destroyed : asked.destroys ≡ true → (cs : List Certificate) × PrintsFor volume seals cs × (IsRead g new → (a : Archive) → KeptFor g old.kept a
         → IsDisposalOf seals asked (KeptFor g new.kept) (epoch_day day) is_done cs a)
 
   -- A DISPOSAL BY A DAY IS JUDGED, by these seals: nothing is destroyed, and it is found that it may begin
@@ -114,7 +123,7 @@ module _ {S K : Type 0} (g : Ghosts S) (old new : Ledger S K) (result : Result (
   -- WHAT IS ASKED FOR IS MADE of the archive of a ledger
   abbrev pub Makes : Changing → Seals → Type 0
   Makes (ReplacePlan plan path is_agreed) seals = ReplacesBy plan
-  Makes (Dispose asked day) seals = Disposes g old new (is_ok result) asked day seals
+  Makes (Dispose asked day) seals = Disposes g old new (is_ok result) asked day None seals
   Makes (Chosen change choice questions) seals = ChangesChosen change choice.now questions
   Makes (ReleaseAll name is_agreed) seals = EndsHold name.now
 

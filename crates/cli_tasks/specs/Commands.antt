@@ -1,5 +1,5 @@
 -- What a command line makes of its archive, where it ends well.
-use Rattle.std.specs.Prelude.{◌≡◌, ℕ, true, List, [], Some, None, option_map, string_bytes, IfSome, Result, Ok, ⊤}
+use Rattle.std.specs.Prelude.{◌≡◌, ℕ, true, List, [], Option, Some, None, option_map, string_bytes, IfSome, Result, Ok, ⊤}
 use Rattle.std.specs.declared.prelude.LibcRuntime.{LibcRuntime}
 use Rattle.jiff_core.specs.declared.civil.date.Date.{Date}
 use Rattle.class_plan.specs.Plans.{Listing}
@@ -111,14 +111,15 @@ module _ {S : Type 0} (g : Ghosts S) (told : Attribution) (before : Store S) (af
   RefilesChosen to choice = (questions : Questions) × AreAsked choice questions
       × ChangesAsTold Ending (λ old new seals. Refiles g old new well to choice questions)
 
-  -- WHAT IS DUE BY A DAY IS DISPOSED OF, by an author whom the command line tells, in a ledger that is opened for that
-  abbrev pub DisposesBy : Disposal → Date → Type 0
-  DisposesBy d day = ChangesAsTold (for_disposal d.destroys) (λ old new seals. Disposes g old new true d day seals)
+  -- WHAT IS DUE BY A DAY IS DISPOSED OF, by an author whom the command line tells, in a ledger that is opened for that, and with certificates
+  -- that name this volume, if there is one
+  abbrev pub DisposesBy : (volume : Option ℕ) → Disposal → Date → Type 0
+  DisposesBy volume d day = ChangesAsTold (for_disposal d.destroys) (λ old new seals. Disposes g old new true d day volume seals)
 
   -- THE SAME AS IT IS TYPED, by the day that is typed, if one is; nothing is destroyed unless that is typed, and no number has a volume
   abbrev pub DisposesAsTyped : DisposalAsked → Type 0
   DisposesAsTyped asked = (typed : TypedDisposal) × (day : Date) × IsAsTyped asked typed × (typed.of_volumes.items ≡ [])
-      × IfSome asked.typed.alone.day (λ t. day ≡ t) × DisposesBy typed.alone day
+      × IfSome asked.typed.alone.day (λ t. day ≡ t) × DisposesBy None typed.alone day
 
   -- THE PLAN IS REPLACED by this one, for what that makes of keeping
   abbrev pub ReplacesPlanBy : Listing → Type 0

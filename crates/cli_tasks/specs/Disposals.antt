@@ -1,5 +1,5 @@
 -- What is due in an archive of volumes, and its destruction.
-use Rattle.std.specs.Prelude.{◌≡◌, ℕ, true, List, [], None, IfSome}
+use Rattle.std.specs.Prelude.{◌≡◌, ℕ, true, List, [], Some, None, IfSome}
 use Rattle.std.specs.List.{find}
 use Rattle.jiff_core.specs.declared.civil.date.Date.{Date}
 use Rattle.sqlite.specs.Store.{Ghosts}
@@ -26,9 +26,9 @@ abbrev pub WhereAsked : TypedDisposal → (volume : ℕ) → (Holds : Disposal �
 WhereAsked typed v Holds = is_named_or_none v typed.of_volumes.items ≡ true → (d : Disposal) × IsDisposalIn typed v d × Holds d
 
 module _ {S : Type 0} (g : Ghosts S) (IsAt : (path : List ℕ) → Store S → Type 0) (folder : List ℕ) (told : Attribution) where
-  -- what is due by a day in a volume is disposed of
+  -- what is due by a day in a volume is disposed of, with certificates that name it
   abbrev pub DisposesIn : Date → (volume : ℕ) → Disposal → Type 0
-  DisposesIn day v d = InVolume IsAt folder v (λ before after. DisposesBy g told before after d day)
+  DisposesIn day v d = InVolume IsAt folder v (λ before after. DisposesBy g told before after (Some v) d day)
 
   -- its disposal is found to be one that may begin: nothing is destroyed by that
   abbrev pub JudgesIn : Date → (volume : ℕ) → Disposal → Type 0

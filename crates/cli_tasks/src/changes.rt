@@ -148,7 +148,8 @@ fn dispose_due<S: Alter>(
     day: Date,
     seals: &Seals,
 ) -> Result<(), Failure>
-    ensures { Disposes S.Store ledger.old ledger.new (is_ok result) asked.now day seals.now }
+    ensures { Disposes S.Store ledger.old ledger.new (is_ok result) asked.now day None
+        seals.now }
 {
     let mut certificates = Certificates::on_output(rt, None, seals);
     match dispose_by(rt, ledger, &mut certificates, asked, day) {

@@ -1,6 +1,6 @@
 //! `dispose` over an archive of volumes.
 
-ghost use Rattle.std.specs.Prelude.{◌≡◌, is_ok, is_some, true, IfOk, IfSome, OnOk};
+ghost use Rattle.std.specs.Prelude.{◌≡◌, is_ok, is_some, true, Some, IfOk, IfSome, OnOk};
 ghost use Rattle.choice_words.specs.Typed.{is_named_or_none as is_asked_of};
 ghost use Rattle.cli_history.specs.declared.opening.Purpose.TheVariants.{Ending};
 ghost use Rattle.cli_tasks.specs.Changes.{Disposes, JudgesDisposal};
@@ -77,7 +77,7 @@ impl LedgerWork for DisposeDue<'_> {
     ghost purpose_by = { λ it present. for_disposal it.asked.now.destroys };
 
     ghost makes = { λ S g it old new done seals. Disposes g old new (is_ok done) it.asked.now
-        it.day seals };
+        it.day (Some it.volume) seals };
 
     fn purpose(&self, _alloc: Global, _present: &Plan) -> Result<Purpose, AllocError> {
         let asked = self.asked;
