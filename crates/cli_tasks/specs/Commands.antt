@@ -33,6 +33,7 @@ use Rattle.record_store.specs.declared.store.Store.{Store}
 use Rattle.cli_changes.specs.Approvals.{IsAsTyped}
 use Rattle.cli_readings.specs.Chosen.{ExportsOf, ListsOf, ReportsOf, ShowsOf, TwiceOf}
 use Rattle.cli_tasks.specs.Changes.{Changes, ChangesChosen, ChangesHold, Disposes, EndsHold, Makes, Refiles, ReplacesBy}
+use Rattle.cli_tasks.specs.Checks.{IsChecked}
 use Rattle.cli_tasks.specs.Copies.{CopiesTo}
 use Rattle.cli_tasks.specs.Deliveries.{DeliversTo}
 use Rattle.cli_tasks.specs.Imports.{ImportsAll}
@@ -154,8 +155,8 @@ abbrev pub ShowsAsTyped : {S : Type 0} → Ghosts S → (WasThere : Store S → 
 ShowsAsTyped g WasThere typed = (typed.volume ≡ None) × Shows g WasThere typed.number
 
 module _ {S : Type 0} (g : Ghosts S) (IsAt : (path : List ℕ) → Store S → Type 0) (path : List ℕ) (told : Attribution) where
-  -- WHAT A COMMAND LINE MAKES of the archive at its path, where it captures a message, changes records, holds or the plan, copies it, or reads
-  -- the records of a choice, a message, or what was captured twice. Where it reads something else of an archive, or sets something in its
+  -- WHAT A COMMAND LINE MAKES of the archive at its path, where it captures messages, changes records, holds or the plan, copies it, checks it, or
+  -- reads the records of a choice, a message, or what was captured twice. Where it reads something else of an archive, or sets something in its
   -- history, it is the one at its path. Nothing is said here of the others.
   abbrev pub Does : Command → Type 0
   Does (command.Chosen typed chosen) = DoesAsTyped g (IsAt path) told typed chosen
@@ -166,7 +167,7 @@ module _ {S : Type 0} (g : Ghosts S) (IsAt : (path : List ℕ) → Store S → T
   Does (command.Copy new is_damaged) = IsDone (IsAt path) (CopiesTo g g IsAt new.now)
   Does command.WritePlan = IsLent (IsAt path)
   Does (command.Show typed fields) = ShowsAsTyped g (IsAt path) typed
-  Does (command.Check head) = IsLent (IsAt path)
+  Does (command.Check head) = IsDone (IsAt path) (λ before after. IsChecked g head before after)
   Does (command.CheckRules asked) = IsLent (IsAt path)
   Does (command.Why asked) = IsLent (IsAt path)
   Does (command.Holds is_json) = IsLent (IsAt path)

@@ -5,6 +5,7 @@ pub mod Places
 pub mod Purposes
 pub mod Changes
 pub mod Captured
+pub mod Checks
 pub mod Deliveries
 pub mod Rounds
 pub mod Imports

@@ -1,9 +1,15 @@
 //! What is read of histories.
 
+ghost use Rattle.std.specs.Prelude.{◌≡◌, None, OnOk};
+ghost use Rattle.record_noted.specs.Openings.{OpensHistory};
+ghost use Rattle.record_store.specs.declared.store.Store.{Store};
+ghost use Rattle.cli_tasks.specs.Checks.{HasPassed, IsChecked};
+
 use crate::archives::Work;
 use cli_console::{Failure, StandardOutput, Status, write_text};
 use cli_history::{
-    HistoryText, judge_history, open_history, open_noted, write_certificates, write_history,
+    HistoryText, StoredSeals, judge_history, open_history, open_noted, write_certificates,
+    write_history,
 };
 use cli_readings::{Contents, write_contents};
 use command_lines::archives::{HistoryAsked, TypedNumbers};
@@ -81,6 +87,40 @@ pub(crate) fn say_none(rt: &HostRuntime) -> Result<(), Failure> {
 const NO_MARK: &str =
     "the store has no history, and so not that of the mark: it is another store, or its history was removed; compare it with a back-up";
 
+/// Judges the history of a store, whose messages have these seals. A mark may be looked for.
+fn check_noted<S: Alter>(
+    rt: &HostRuntime,
+    noted: NotedStore<S>,
+    head: Option<&str>,
+    seals: StoredSeals,
+) -> (Connection<S>, Result<(), Failure>)
+    ensures { (read : Store S) → OpensHistory S.Store read noted
+        → OnOk result.1 (HasPassed S.Store head.entry read result.0) }
+{
+    let mut noted = noted;
+    let judged = judge_history(rt, &mut noted, None, head, seals);
+    (noted.into_store().into_connection(), judged)
+}
+
+/// Says that a store has no history. `BadData` where a mark is looked for, which it has nowhere.
+fn check_plain<S: Alter>(
+    rt: &HostRuntime,
+    archive: Store<S>,
+    head: Option<&str>,
+) -> (Connection<S>, Result<(), Failure>)
+    ensures unsought { OnOk result.1 (head.entry ≡ None) }
+    ensures left { result.0 ≡ archive.conn }
+{
+    let connection = archive.into_connection();
+    match head {
+        Some(_) => {
+            let failure = Failure::told(rt.alloc(), Status::BadData, NO_MARK);
+            (connection, Err(failure))
+        }
+        None => (connection, say_none(rt)),
+    }
+}
+
 /// Judges a whole store, and its history where it has one; else that is said. A mark may be looked for, which a store without a
 /// history has nowhere.
 #[derive(Drop)]
@@ -90,6 +130,8 @@ pub struct CheckAll<'a> {
 
 impl Work for CheckAll<'_> {
     type Answer = ();
+
+    ghost does = { λ S g it before done after. OnOk done (IsChecked g it.head before after) };
 
     fn work<S: Alter>(
         self,
@@ -102,18 +144,8 @@ impl Work for CheckAll<'_> {
             Err(failure) => return (archive.into_connection(), Err(failure)),
         };
         match open_history(rt, archive) {
-            Ok(Opened::Noted(noted)) => {
-                let mut noted = noted;
-                let done = judge_history(rt, &mut noted, None, self.head, seals);
-                (noted.into_store().into_connection(), done)
-            }
-            Ok(Opened::Plain(archive)) => {
-                let said = match self.head {
-                    Some(_) => Err(Failure::told(rt.alloc(), Status::BadData, NO_MARK)),
-                    None => say_none(rt),
-                };
-                (archive.into_connection(), said)
-            }
+            Ok(Opened::Noted(noted)) => check_noted(rt, noted, self.head, seals),
+            Ok(Opened::Plain(archive)) => check_plain(rt, archive, self.head),
             Err((archive, failure)) => (archive.into_connection(), Err(failure)),
         }
     }
