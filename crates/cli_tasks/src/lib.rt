@@ -21,7 +21,8 @@
 //! records, holds or the plan makes of its archive, `Volumes` what it makes of an archive of volumes, with `Releases`, `Refiles`,
 //! `Disposals`, `Endings`, `Settings` and `Histories`, `Readings` what is read of one, `Copies` how archives are copied, `Plans` what plan
 //! it has, `Numbers` how numbers are refused there, and what is asked of a volume, `Days` by which days the clock is judged there, `Places`
-//! where messages are captured, `Deliveries` what a delivery captures, `Captured` which messages its volumes have already, `Changes` what a
+//! where messages are captured, `Deliveries` what a delivery captures, `Rounds` in which rounds an intake does, `Imports` in which an
+//! import does, `Captured` which messages its volumes have already, `Checks` what is found of a store that is checked, `Changes` what a
 //! person changes, `Purposes` for what its ledger is opened, and `Works` what is done with an archive that is lent. Of the other commands,
 //! and of a terminal, no contract speaks: they are proved to be safe, and tests of the program show what they do.
 #![tactic(auto)]
