@@ -115,10 +115,11 @@ lines_fit() {
     ! grep -v -E "^[^:]*:[0-9]+: *(//|ghost use|use |#\[)|\"|^crates/(cli_page/src/style.rt|cli_volumes/src/row.rt:105):" "$work/said"
 }
 
-# Whether each line of a proof has at most 150 characters; imports, and those with a text of SQL in quotation marks, may have more.
+# Whether each line of a proof has at most 150 characters; one with a text of SQL in quotation marks may have more. Three imports have
+# more, until their crates are proved again.
 proofs_fit() {
     LC_ALL=C.UTF-8 grep -r -n -E --include='*.antt' '^.{151}' crates/*/proofs > "$work/said"
-    ! grep -v -E '"|^[^:]*:[0-9]+: *use ' "$work/said"
+    ! grep -v -E '"|^crates/(cli_volumes/proofs/RowLaws|command_lines/proofs/TableLemmas).antt:[0-9]+:use ' "$work/said"
 }
 
 # Whether the edits that the gate tries change code alone.
